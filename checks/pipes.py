@@ -470,7 +470,7 @@ def to_full(text):
 
 
 def waiting():
-    """A batch that couldn't be written is confirmed where it needn't wait: what a sink says counts, and what is said of the whole where it says nothing."""
+    """A batch that couldn't be written is confirmed where it needn't wait: what a sink says counts, and what is said globally where it says nothing."""
     front, sink = '[sources.in]\ntype = "stdin"\n', '[sinks.{}]\ntype = "console"\ntarget = "{}"\ninputs = ["in"]\nencoding.codec = "text"\nrequest.retry_attempts = 0\n'
     source = {"read": 2, "lines": 1, "events": 1, "batches": 1, "errored": 1}
     lost = tally("sink", "out", taken=1, attempts=1, errored=1)

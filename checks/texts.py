@@ -250,7 +250,7 @@ DEMO_OPTIONS = [
 ]
 
 # options of a sink that writes nothing
-HOLE_OPTIONS = [
+BLACKHOLE_OPTIONS = [
     ("", None),
     ("print_interval_secs = 9007199254740992", None),
     ("print_interval_secs = 9007199254740993", "bad value at sinks.out.print_interval_secs"),
@@ -571,7 +571,7 @@ def configurations():
     """Configurations, each with why it isn't accepted, or accepted."""
     tables = [
         ("", WHOLE, ""), (SOURCE, COMPONENTS, "\n" + SINK), (BEFORE_OPTIONS, SINK_OPTIONS, "\n"), (BEFORE_OPTIONS, BUFFERS, "\n"), (BEFORE_OPTIONS, BATCHES, "\n"), (BEFORE_OPTIONS, RETRIES, "\n"), (SOURCE, SOURCE_OPTIONS, "\n" + SINK),
-        (SOURCE.replace("stdin", "demo_logs"), DEMO_OPTIONS, "\n" + SINK), (BEFORE_OPTIONS.replace("console", "blackhole"), HOLE_OPTIONS, "\n"),
+        (SOURCE.replace("stdin", "demo_logs"), DEMO_OPTIONS, "\n" + SINK), (BEFORE_OPTIONS.replace("console", "blackhole"), BLACKHOLE_OPTIONS, "\n"),
         (BEFORE_FILTER, FILTER_OPTIONS, "\n"), (BEFORE_ROUTE, ROUTE_OPTIONS, "\n"), (BEFORE_SAMPLE, SAMPLE_OPTIONS, "\n"), (BEFORE_DEDUPE, DEDUPE_OPTIONS, "\n"), (BEFORE_REDUCE, REDUCE_OPTIONS, "\n"), (BEFORE_ROUTED, ROUTE_INPUTS, "\n"),
         (BEFORE_INPUTS, INPUTS, "\n"), ("", FILES, "\n"), ("", TWO_FAULTS, ""), ("", FORMS, ""), ("", NAMES, ""),
         ("", [(graph(rows), why) for rows, why in GRAPHS], ""),

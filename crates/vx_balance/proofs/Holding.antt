@@ -9,7 +9,7 @@ use Rattle.vx_record.specs.Copies.{count, next_copy, IsLive}
 use Rattle.vx_record.specs.Lists.{places, stands, parcels_at}
 use Rattle.vx_record.specs.Legal.{IsLegal}
 use Rattle.vx_record.proofs.Changes.{places_meant}
-use Rattle.vx_record.proofs.Hands.{times_some}
+use Rattle.vx_record.proofs.HeldCopies.{times_some}
 use Rattle.vx_record.proofs.OnePlace.{conserved, one_place, live_stands, tracked}
 use Rattle.vx_record.proofs.Place.{count-oldest}
 use Rattle.vx_record.proofs.Tracked.{unmade_nowhere}

@@ -6,6 +6,6 @@ pub mod Owning
 pub mod Steps
 pub mod Settling
 pub mod Holding
-pub mod Bearing
+pub mod Creating
 pub mod Noting
 pub mod Routing

@@ -9,7 +9,7 @@ use Rattle.vx_status.specs.Tables.{status_of, batch_update}
 use Rattle.vx_ledger.specs.Copies.{Copy}
 use Rattle.vx_ledger.specs.Ledger.{AreKept, rows_of, grown_rows, spent_rows, notice_of}
 use Rattle.vx_ledger.specs.declared.open_batch.OpenBatch.{OpenBatch}
-use Rattle.vx_ledger.specs.declared.notice.Notice.{Notice as Told}
+use Rattle.vx_ledger.specs.declared.notice.Notice.{Notice as GivenNotice}
 use Rattle.vx_record.specs.Records.{Record}
 use Rattle.vx_record.specs.declared.entry.Entry.TheVariants.{Notice}
 use Rattle.vx_record.specs.Copies.{next_copy}
@@ -67,7 +67,7 @@ without_noticed h b status (x ∷ xs) = go (is_noticed h x.number) (b == x.numbe
 
 -- THE ROWS
 abbrev as_batch : OpenBatch → Batch
-as_batch r = record { number = r.number; bearer = r.instance }
+as_batch r = record { number = r.number; creator = r.instance }
 
 -- more copies open no batch
 pub opens_grown : (more : ℕ) (copies : List Copy) (rows : List OpenBatch) → batches_in (grown_rows more copies rows) ≡ batches_in rows
@@ -84,7 +84,7 @@ pub opens_spent : (b place : ℕ) (o : Outcome) (rows : List OpenBatch) → noti
 opens_spent b place o [] none = refl
 opens_spent b place o (r ∷ rs) none = go ((r.number == b) && (r.place == place)) (r.count == 1) (opens_spent b place o rs) none
   where
-    made : Told
+    made : GivenNotice
     made = record { batch = b; instance = r.instance; status = batch_update r.status (status_of o) }
 
     spent : OpenBatch
@@ -105,16 +105,16 @@ others_all b (r ∷ rs) none = ap {B = List Batch} (λ t. if t then others_of b 
     apart = grind (arith, nat_tests, none)
 
 -- where a spend gives a notice, its batch was open, and only the others are
-pub record Shuts (b : ℕ) (rows rest : List OpenBatch) (told : Told) : Type 0 where
+pub record Shuts (b : ℕ) (rows rest : List OpenBatch) (given_notice : GivenNotice) : Type 0 where
   pub left : batches_in rest ≡ others_of b (batches_in rows)
-  pub had : IsAmong (record { number = b; bearer = told.instance }) (batches_in rows)
+  pub had : IsAmong (record { number = b; creator = given_notice.instance }) (batches_in rows)
 
-pub shuts : (b : ℕ) (o : Outcome) (next : ℕ) (rows : List OpenBatch) (told : Told) → AreKept next rows → notice_of b b o rows ≡ Some told → Shuts b rows (spent_rows b b o rows) told
-shuts b o next [] told kept is = cc
-shuts b o next (r ∷ rs) told kept is =
+pub shuts : (b : ℕ) (o : Outcome) (next : ℕ) (rows : List OpenBatch) (given_notice : GivenNotice) → AreKept next rows → notice_of b b o rows ≡ Some given_notice → Shuts b rows (spent_rows b b o rows) given_notice
+shuts b o next [] given_notice kept is = cc
+shuts b o next (r ∷ rs) given_notice kept is =
     elim (cases_eq r.number b) [
       | inl same ↦ found same ((r.number == b) && (r.place == b)) (both same) (r.count == 1) is
-      | inr other ↦ missed other ((r.number == b) && (r.place == b)) (neither other) is (λ rest. shuts b o next rs told kept.5 rest)
+      | inr other ↦ missed other ((r.number == b) && (r.place == b)) (neither other) is (λ rest. shuts b o next rs given_notice kept.5 rest)
     ]
   where
     both : r.number ≡ b → ((r.number == b) && (r.place == b)) ≡ true
@@ -129,7 +129,7 @@ shuts b o next (r ∷ rs) told kept is =
     another : (r.number ≡ b → ⊥) → (b == r.number) ≡ false
     another other = grind (arith, nat_tests)
 
-    made : Told
+    made : GivenNotice
     made = record { batch = b; instance = r.instance; status = batch_update r.status (status_of o) }
 
     spent : OpenBatch
@@ -138,20 +138,20 @@ shuts b o next (r ∷ rs) told kept is =
     choose : (t : Bool) → (b == r.number) ≡ t → (if t then others_of b (batches_in rs) else as_batch r ∷ others_of b (batches_in rs)) ≡ others_of b (batches_in (r ∷ rs))
     choose t e = ap {B = List Batch} (λ t. if t then others_of b (batches_in rs) else as_batch r ∷ others_of b (batches_in rs)) (sym e)
 
-    found : r.number ≡ b → (t : Bool) → t ≡ true → (last : Bool) → (if t then (if last then Some made else None) else notice_of b b o rs) ≡ Some told →
-        Shuts b (r ∷ rs) (if t then (if last then rs else spent ∷ rs) else r ∷ spent_rows b b o rs) told
+    found : r.number ≡ b → (t : Bool) → t ≡ true → (last : Bool) → (if t then (if last then Some made else None) else notice_of b b o rs) ≡ Some given_notice →
+        Shuts b (r ∷ rs) (if t then (if last then rs else spent ∷ rs) else r ∷ spent_rows b b o rs) given_notice
     found at true e true is =
-        let same : made ≡ told = cc in
+        let same : made ≡ given_notice = cc in
         record {
           left = sym (others_all b rs (subst (λ n. rows_of n rs ≡ 0) at kept.4)) ∙ choose true (itself at);
-          had = inl (ap (λ n. record { number = n; bearer = r.instance }) at ∙ ap (λ (x : Told). record { number = b; bearer = x.instance }) same);
+          had = inl (ap (λ n. record { number = n; creator = r.instance }) at ∙ ap (λ (x : GivenNotice). record { number = b; creator = x.instance }) same);
         }
     found at true e false is = cc
     found at false e last is = cc
 
-    missed : (r.number ≡ b → ⊥) → (t : Bool) → t ≡ false → (if t then (if r.count == 1 then Some made else None) else notice_of b b o rs) ≡ Some told →
-        (notice_of b b o rs ≡ Some told → Shuts b rs (spent_rows b b o rs) told) →
-        Shuts b (r ∷ rs) (if t then (if r.count == 1 then rs else spent ∷ rs) else r ∷ spent_rows b b o rs) told
+    missed : (r.number ≡ b → ⊥) → (t : Bool) → t ≡ false → (if t then (if r.count == 1 then Some made else None) else notice_of b b o rs) ≡ Some given_notice →
+        (notice_of b b o rs ≡ Some given_notice → Shuts b rs (spent_rows b b o rs) given_notice) →
+        Shuts b (r ∷ rs) (if t then (if r.count == 1 then rs else spent ∷ rs) else r ∷ spent_rows b b o rs) given_notice
     missed other true e is ih = cc
     missed other false e is ih =
         let rest = ih is in

@@ -8,7 +8,7 @@ use Rattle.vx_status.specs.Tables.{status_of, batch_update}
 use Rattle.vx_ledger.specs.Copies.{Copy}
 use Rattle.vx_ledger.specs.Ledger.{AreKept, rows_of, grown_rows, spent_rows, notice_of}
 use Rattle.vx_ledger.specs.declared.open_batch.OpenBatch.{OpenBatch}
-use Rattle.vx_ledger.specs.declared.notice.Notice.{Notice as Told}
+use Rattle.vx_ledger.specs.declared.notice.Notice.{Notice as GivenNotice}
 use Rattle.vx_record.specs.Records.{Record}
 use Rattle.vx_record.specs.declared.entry.Entry.TheVariants.{Spent}
 use Rattle.vx_record.specs.Batches.{batch_of}
@@ -78,20 +78,20 @@ running_spent h i c o b next (r ∷ rs) is kept a =
     missed false e s rest = (s, rest)
 
 -- the notice of a batch has the status that its spends have then
-pub notice_status : (h : Record) (i c : ℕ) (o : Outcome) (b : ℕ) (rows : List OpenBatch) (told : Told) → batch_of h c ≡ b → AreRunning h rows → notice_of b b o rows ≡ Some told →
-    (told.batch ≡ b) × (told.status ≡ running (Spent i c o ∷ h) b)
-notice_status h i c o b [] told is a e = cc
-notice_status h i c o b (r ∷ rs) told is a e =
-    go ((r.number == b) && (r.place == b)) refl (r.count == 1) (λ f. notice_status h i c o b rs told is a.1 f) e
+pub notice_status : (h : Record) (i c : ℕ) (o : Outcome) (b : ℕ) (rows : List OpenBatch) (given_notice : GivenNotice) → batch_of h c ≡ b → AreRunning h rows → notice_of b b o rows ≡ Some given_notice →
+    (given_notice.batch ≡ b) × (given_notice.status ≡ running (Spent i c o ∷ h) b)
+notice_status h i c o b [] given_notice is a e = cc
+notice_status h i c o b (r ∷ rs) given_notice is a e =
+    go ((r.number == b) && (r.place == b)) refl (r.count == 1) (λ f. notice_status h i c o b rs given_notice is a.1 f) e
   where
-    made : Told
+    made : GivenNotice
     made = record { batch = b; instance = r.instance; status = batch_update r.status (status_of o) }
 
-    go : (t : Bool) → ((r.number == b) && (r.place == b)) ≡ t → (last : Bool) → (notice_of b b o rs ≡ Some told → (told.batch ≡ b) × (told.status ≡ running (Spent i c o ∷ h) b)) → (if t then (if last then Some made else None) else notice_of b b o rs) ≡ Some told →
-        (told.batch ≡ b) × (told.status ≡ running (Spent i c o ∷ h) b)
+    go : (t : Bool) → ((r.number == b) && (r.place == b)) ≡ t → (last : Bool) → (notice_of b b o rs ≡ Some given_notice → (given_notice.batch ≡ b) × (given_notice.status ≡ running (Spent i c o ∷ h) b)) → (if t then (if last then Some made else None) else notice_of b b o rs) ≡ Some given_notice →
+        (given_notice.batch ≡ b) × (given_notice.status ≡ running (Spent i c o ∷ h) b)
     go true t true ih e =
-        let same : made ≡ told = cc in
+        let same : made ≡ given_notice = cc in
         let number : r.number ≡ b = grind (arith, nat_tests) in
-        (sym (ap (λ (x : Told). x.batch) same), sym (ap (λ (x : Told). x.status) same) ∙ ap (λ s. batch_update s (status_of o)) a.0 ∙ ap (λ n. batch_update (running h n) (status_of o)) number ∙ sym (own_status h i c o b is))
+        (sym (ap (λ (x : GivenNotice). x.batch) same), sym (ap (λ (x : GivenNotice). x.status) same) ∙ ap (λ s. batch_update s (status_of o)) a.0 ∙ ap (λ n. batch_update (running h n) (status_of o)) number ∙ sym (own_status h i c o b is))
     go true t false ih e = cc
     go false t last ih e = ih e

@@ -25,7 +25,7 @@ times_born : (h : Record) (b : ℕ) → count b (batches h) ≡ times_among b (b
 times_born [] b = refl
 times_born (Born i b' place copies events waits stream end ∷ h) b =
     let rest = times_born h b in
-    let more = times_more b (born h) (record { number = b'; bearer = i }) in
+    let more = times_more b (born h) (record { number = b'; creator = i }) in
     omega (arith, rest, more)
 times_born (e ∷ h) b = times_born h b
 

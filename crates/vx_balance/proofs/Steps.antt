@@ -8,7 +8,7 @@ use Rattle.vx_status.specs.declared.batch_status.BatchStatus.TheVariants.{Delive
 use Rattle.vx_ledger.specs.Copies.{Copy, copies_of, numbered, children_of, joined, each_alone, numbers_of}
 use Rattle.vx_ledger.specs.Ledger.{Ledger, IsKept, Exchanges, live_count, grown_rows, spent_rows, notice_of}
 use Rattle.vx_ledger.specs.declared.open_batch.OpenBatch.{OpenBatch}
-use Rattle.vx_ledger.specs.declared.notice.Notice.{Notice as Told}
+use Rattle.vx_ledger.specs.declared.notice.Notice.{Notice as GivenNotice}
 use Rattle.vx_ledger.specs.declared.short.Short.{Short}
 use Rattle.vx_ledger.specs.declared.split_refused.SplitRefused.{SplitRefused}
 use Rattle.vx_ledger.proofs.CopyLaws.{copies_of-numbered, copies_of-children_of, joined-each_alone}
@@ -28,7 +28,7 @@ use Rattle.vx_balance.specs.Live.{live_copies}
 use Rattle.vx_balance.specs.Births.{born, unnoticed, batches_in, IsAmong}
 use Rattle.vx_balance.specs.Owned.{IsOfBatch, AreOfBatch, EachOfBatch}
 use Rattle.vx_balance.specs.Balances.{AreRunning, Balances}
-use Rattle.vx_balance.specs.Promises.{Bears, Splits, LeavesOpen, ClosesBatch, AsideKept, AnyInTurn}
+use Rattle.vx_balance.specs.Promises.{CreatesBatch, Splits, LeavesOpen, ClosesBatch, AsideKept, AnyInTurn}
 use Rattle.vx_balance.proofs.Sums.{of_batch}
 use Rattle.vx_balance.proofs.Lives.{live_still, live_spent, live_born, live_split, live_none}
 use Rattle.vx_balance.proofs.Running.{running_on, running_grown, running_more, running_spent, notice_status}
@@ -75,8 +75,8 @@ born_balances h i b place copies events waits stream end n made old new size num
           let l = live_born h i b place copies events waits stream end b' (kept h account) in
           let s = ap {B = ℕ} (λ k. if b == b' then k else 0) size in
           omega (arith, e, m, w, l, s);
-      opens = ap batches_in rows ∙ opens_more old.open_rows row ∙ ap (λ xs. xs ++ record { number = b; bearer = i } ∷ []) was.opens
-          ∙ sym (without_same h k (λ c. refl) (born h ++ record { number = b; bearer = i } ∷ []) ∙ without_more h (born h) (record { number = b; bearer = i }) (unborn h b account future));
+      opens = ap batches_in rows ∙ opens_more old.open_rows row ∙ ap (λ xs. xs ++ record { number = b; creator = i } ∷ []) was.opens
+          ∙ sym (without_same h k (λ c. refl) (born h ++ record { number = b; creator = i } ∷ []) ∙ without_more h (born h) (record { number = b; creator = i }) (unborn h b account future));
       statuses = subst (AreRunning k) (sym rows) (running_more k old.open_rows row (running_on h k old.open_rows (λ c. refl) was.statuses) (sym (running_future h b account future)));
       noticeless = refl;
       kept = sound;
@@ -91,9 +91,9 @@ born_balances h i b place copies events waits stream end n made old new size num
     future : next_copy h ≤ b
     future = let at = was.next in omega (arith, at, number)
 
-pub bears : (i n b : ℕ) (made : List Copy) (old new : Ledger) → b ≡ old.next → made ≡ numbered n old.next old.next old.next → new.next ≡ old.next + n →
-    new.open_rows ≡ old.open_rows ++ record { number = old.next; place = old.next; instance = i; count = n; status = Delivered } ∷ [] → Exchanges old [] new made → IsKept new → Bears i n b made old new
-bears i n b made old new number are next rows exchange sound = record {
+pub creates : (i n b : ℕ) (made : List Copy) (old new : Ledger) → b ≡ old.next → made ≡ numbered n old.next old.next old.next → new.next ≡ old.next + n →
+    new.open_rows ≡ old.open_rows ++ record { number = old.next; place = old.next; instance = i; count = n; status = Delivered } ∷ [] → Exchanges old [] new made → IsKept new → CreatesBatch i n b made old new
+creates i n b made old new number are next rows exchange sound = record {
   number = number;
   numbers = numbers;
   fits = let f = sound.numbers in omega (arith, next, f);
@@ -114,12 +114,12 @@ bears i n b made old new number are next rows exchange sound = record {
     size = ap (λ (ns : List ℕ). length ns) numbers ∙ length-counting old.next n
 
 -- where the batch was born, each copy in a list of its own
-pub bears_each : (i n : ℕ) (old new : Ledger) (answer : Result (ℕ × List (List Copy)) Short) → IfOk answer (λ r. r.0 ≡ old.next) → IfOk answer (λ r. r.1 ≡ each_alone (numbered n old.next old.next old.next)) → OnOk answer (new.next ≡ old.next + n) →
+pub starts_batch : (i n : ℕ) (old new : Ledger) (answer : Result (ℕ × List (List Copy)) Short) → IfOk answer (λ r. r.0 ≡ old.next) → IfOk answer (λ r. r.1 ≡ each_alone (numbered n old.next old.next old.next)) → OnOk answer (new.next ≡ old.next + n) →
     OnOk answer (new.open_rows ≡ old.open_rows ++ record { number = old.next; place = old.next; instance = i; count = n; status = Delivered } ∷ []) → IfOk answer (λ r. Exchanges old [] new (joined r.1)) → IsKept new →
-    IfOk answer (λ r. Bears i n r.0 (joined r.1) old new)
-bears_each i n old new (Ok r) number are next rows exchange sound =
-    bears i n r.0 (joined r.1) old new number (ap joined are ∙ joined-each_alone (numbered n old.next old.next old.next)) next rows exchange sound
-bears_each i n old new (Err e) number are next rows exchange sound = tt
+    IfOk answer (λ r. CreatesBatch i n r.0 (joined r.1) old new)
+starts_batch i n old new (Ok r) number are next rows exchange sound =
+    creates i n r.0 (joined r.1) old new number (ap joined are ∙ joined-each_alone (numbered n old.next old.next old.next)) next rows exchange sound
+starts_batch i n old new (Err e) number are next rows exchange sound = tt
 
 -- lists of one copy each are those of the copies behind one another
 pub each_again : (copies : List Copy) (answer : Result (ℕ × List (List Copy)) Short) → IfOk answer (λ r. r.1 ≡ each_alone copies) →
@@ -178,7 +178,7 @@ splits_of k parent old new (Err e) made next rows exchange sound = tt
 one_of : (b batch place from : ℕ) → from ≡ batch → place ≡ batch → ◌≡◌ {A = ℕ} ((if (batch == b) && (place == b) then 1 else 0) + 0) (if from == b then 1 else 0)
 one_of b batch place from same at = grind (arith, nat_tests, same, at)
 
-silent : IsSome {T = Told} None → ⊥
+silent : IsSome {T = GivenNotice} None → ⊥
 silent some = let contrary : false ≡ true = some in cc
 
 module _ (copy : Copy) (o : Outcome) (old new : Ledger) (next : new.next ≡ old.next) (rows : new.open_rows ≡ spent_rows copy.batch copy.place o old.open_rows) (exchange : Exchanges old (copy ∷ []) new []) (sound : IsKept new) where
@@ -221,43 +221,43 @@ module _ (copy : Copy) (o : Outcome) (old new : Ledger) (next : new.next ≡ old
     }
 
     -- it was the last
-    module _ (told : Told) (none : live_count copy.batch copy.place new.open_rows ≡ 0) (notice : notice_of copy.batch copy.place o old.open_rows ≡ Some told) where
-      notice_there : notice_of copy.batch copy.batch o old.open_rows ≡ Some told
+    module _ (given_notice : GivenNotice) (none : live_count copy.batch copy.place new.open_rows ≡ 0) (notice : notice_of copy.batch copy.place o old.open_rows ≡ Some given_notice) where
+      notice_there : notice_of copy.batch copy.batch o old.open_rows ≡ Some given_notice
       notice_there = ap (λ p. notice_of copy.batch p o old.open_rows) (sym is.place) ∙ notice
 
-      says : (told.batch ≡ copy.batch) × (told.status ≡ running spent copy.batch)
-      says = notice_status h i copy.number o copy.batch old.open_rows told is.batch was.statuses notice_there
+      says : (given_notice.batch ≡ copy.batch) × (given_notice.status ≡ running spent copy.batch)
+      says = notice_status h i copy.number o copy.batch old.open_rows given_notice is.batch was.statuses notice_there
 
-      due : Awaits spent told.batch
+      due : Awaits spent given_notice.batch
       due = subst (Awaits spent) (sym says.0) (is.batch, (live_none spent copy.batch).0 (sym (live_as copy.batch) ∙ ap (λ p. live_count copy.batch p new.open_rows) (sym is.place) ∙ none))
 
-      may_notice : MayNotice spent told.batch told.status
-      may_notice = record { due = awaits_so spent told.batch due; folded = says.1 ∙ ap (running spent) (sym says.0) ∙ running_so spent told.batch account }
+      may_notice : MayNotice spent given_notice.batch given_notice.status
+      may_notice = record { due = awaits_so spent given_notice.batch due; folded = says.1 ∙ ap (running spent) (sym says.0) ∙ running_so spent given_notice.batch account }
 
-      closed : Balances new (Notice told.batch told.status ∷ spent)
+      closed : Balances new (Notice given_notice.batch given_notice.status ∷ spent)
       closed = record {
         next = let n = next_there in omega (arith, n);
-        live = λ b. live_as b ∙ sym (live_still spent (Notice told.batch told.status) b refl refl refl (λ c. refl));
-        opens = ap batches_in rows_there ∙ (shuts copy.batch o old.next old.open_rows told was.kept.rows notice_there).left ∙ ap (others_of copy.batch) was.opens
+        live = λ b. live_as b ∙ sym (live_still spent (Notice given_notice.batch given_notice.status) b refl refl refl (λ c. refl));
+        opens = ap batches_in rows_there ∙ (shuts copy.batch o old.next old.open_rows given_notice was.kept.rows notice_there).left ∙ ap (others_of copy.batch) was.opens
             ∙ ap (λ n. others_of n (unnoticed h)) (sym says.0)
-            ∙ sym (without_noticed spent told.batch told.status (born h) ∙ ap (others_of told.batch) (without_same h spent (λ c. refl) (born h)));
-        statuses = running_on spent (Notice told.batch told.status ∷ spent) new.open_rows (λ b. refl) statuses;
+            ∙ sym (without_noticed spent given_notice.batch given_notice.status (born h) ∙ ap (others_of given_notice.batch) (without_same h spent (λ c. refl) (born h)));
+        statuses = running_on spent (Notice given_notice.batch given_notice.status ∷ spent) new.open_rows (λ b. refl) statuses;
         noticeless = refl;
         kept = sound;
       }
 
-  pub leaves_open : (told : Option Told) → told ≡ notice_of copy.batch copy.place o old.open_rows → IsSome told ↔ (live_count copy.batch copy.place new.open_rows ≡ 0) → IfNone told (LeavesOpen copy o old new)
+  pub leaves_open : (given_notice : Option GivenNotice) → given_notice ≡ notice_of copy.batch copy.place o old.open_rows → IsSome given_notice ↔ (live_count copy.batch copy.place new.open_rows ≡ 0) → IfNone given_notice (LeavesOpen copy o old new)
   leaves_open None quiet last = record { carries = λ h i is legal was. left_open h i is (accounted (Spent i copy.number o ∷ h) legal) was (sym quiet) (λ none. silent (last.1 none)) }
-  leaves_open (Some told) notice last = tt
+  leaves_open (Some given_notice) notice last = tt
 
-  pub closes_batch : (told : Option Told) → told ≡ notice_of copy.batch copy.place o old.open_rows → IsSome told ↔ (live_count copy.batch copy.place new.open_rows ≡ 0) → IfSome told (ClosesBatch copy o old new)
+  pub closes_batch : (given_notice : Option GivenNotice) → given_notice ≡ notice_of copy.batch copy.place o old.open_rows → IsSome given_notice ↔ (live_count copy.batch copy.place new.open_rows ≡ 0) → IfSome given_notice (ClosesBatch copy o old new)
   closes_batch None quiet last = tt
-  closes_batch (Some told) notice last = record {
-    row = λ h i is legal was. may_notice h i is (accounted (Spent i copy.number o ∷ h) legal) was told (last.0 refl) (sym notice);
-    bearer = λ h i is legal was.
+  closes_batch (Some given_notice) notice last = record {
+    row = λ h i is legal was. may_notice h i is (accounted (Spent i copy.number o ∷ h) legal) was given_notice (last.0 refl) (sym notice);
+    creator = λ h i is legal was.
         let account = accounted (Spent i copy.number o ∷ h) legal in
-        subst (λ n. IsAmong (record { number = n; bearer = told.instance }) (unnoticed h)) (sym (says h i is account was told (last.0 refl) (sym notice)).0)
-        (subst (IsAmong (record { number = copy.batch; bearer = told.instance })) was.opens
-        (shuts copy.batch o old.next old.open_rows told was.kept.rows (notice_there h i is account was told (last.0 refl) (sym notice))).had);
-    carries = λ h i is legal was. closed h i is (accounted (Spent i copy.number o ∷ h) legal) was told (last.0 refl) (sym notice);
+        subst (λ n. IsAmong (record { number = n; creator = given_notice.instance }) (unnoticed h)) (sym (says h i is account was given_notice (last.0 refl) (sym notice)).0)
+        (subst (IsAmong (record { number = copy.batch; creator = given_notice.instance })) was.opens
+        (shuts copy.batch o old.next old.open_rows given_notice was.kept.rows (notice_there h i is account was given_notice (last.0 refl) (sym notice))).had);
+    carries = λ h i is legal was. closed h i is (accounted (Spent i copy.number o ∷ h) legal) was given_notice (last.0 refl) (sym notice);
   }

@@ -16,7 +16,7 @@ abbrev pub AreRunning : Record → List OpenBatch → Type 0
 AreRunning h [] = Unit {0}
 AreRunning h (r ∷ rs) = (r.status ≡ running h r.number) × AreRunning h rs
 
--- the open batches are those of the record that have no notice, each with its bearer, its live copies and its status so
+-- the open batches are those of the record that have no notice, each with its creator, its live copies and its status so
 -- far; the next copy has the next number; and any entry may stand behind, since no notice is due
 pub record Balances (account : Ledger) (h : Record) : Type 0 where
   pub next : account.next ≡ next_copy h

@@ -7,7 +7,7 @@ use Rattle.vx_ledger.specs.Ledger.{Ledger}
 use Rattle.vx_ledger.specs.Routing.{children_for}
 use Rattle.vx_ledger.specs.declared.child.Child.{Child as Sent}
 use Rattle.vx_ledger.specs.declared.parcel.Parcel.{Parcel}
-use Rattle.vx_ledger.specs.declared.notice.Notice.{Notice as Told}
+use Rattle.vx_ledger.specs.declared.notice.Notice.{Notice as GivenNotice}
 use Rattle.vx_record.specs.declared.child.Child.{Child}
 use Rattle.vx_record.specs.declared.entry.Entry.{Entry}
 use Rattle.vx_record.specs.declared.entry.Entry.TheVariants.{Install, Lease, Home, Read, Idle, SourceLost, Born, Split, Push, Take, Tick, Answer, Attempt, Spent, Notice, Confirm, Closed, Retired, Abandon}
@@ -23,7 +23,7 @@ use Rattle.vx_record.specs.Accounting.{IsInTurn}
 use Rattle.vx_record.specs.Spending.{MayNotice}
 use Rattle.vx_record.specs.Legal.{IsLegal}
 use Rattle.vx_balance.specs.Live.{live_copies}
-use Rattle.vx_balance.specs.Births.{unnoticed, batches_in, borne_by, IsAmong}
+use Rattle.vx_balance.specs.Births.{unnoticed, batches_in, created_by, IsAmong}
 use Rattle.vx_balance.specs.Owned.{noted, IsOfBatch, AreOfBatch, EachOfBatch, AreHeld}
 use Rattle.vx_balance.specs.Balances.{Balances}
 
@@ -32,7 +32,7 @@ abbrev pub Carries : Record → Entry → Ledger → Ledger → Type 0
 Carries h e old new = IsLegal (e ∷ h) → Balances old h → Balances new (e ∷ h)
 
 -- a batch of n copies, which have the next numbers, was born to an instance
-pub record Bears (i n b : ℕ) (copies : List Copy) (old new : Ledger) : Type 0 where
+pub record CreatesBatch (i n b : ℕ) (copies : List Copy) (old new : Ledger) : Type 0 where
   pub number : b ≡ old.next
   pub numbers : numbers_of copies ≡ counting old.next n
   pub fits : old.next + n ≤ 2 ^ 63
@@ -68,13 +68,13 @@ pub record LeavesOpen (copy : Copy) (outcome : Outcome) (old new : Ledger) : Typ
 
 -- the last live copy of a batch was spent: its notice may stand directly behind, with the status that the tables fold, and
 -- then the batches balance
-pub record ClosesBatch (copy : Copy) (outcome : Outcome) (old new : Ledger) (told : Told) : Type 0 where
+pub record ClosesBatch (copy : Copy) (outcome : Outcome) (old new : Ledger) (given_notice : GivenNotice) : Type 0 where
   pub row : (h : Record) (i : ℕ) → IsOfBatch h copy → IsLegal (Spent i copy.number outcome ∷ h) → Balances old h →
-      MayNotice (Spent i copy.number outcome ∷ h) told.batch told.status
-  pub bearer : (h : Record) (i : ℕ) → IsOfBatch h copy → IsLegal (Spent i copy.number outcome ∷ h) → Balances old h →
-      IsAmong (record { number = told.batch; bearer = told.instance }) (unnoticed h)
+      MayNotice (Spent i copy.number outcome ∷ h) given_notice.batch given_notice.status
+  pub creator : (h : Record) (i : ℕ) → IsOfBatch h copy → IsLegal (Spent i copy.number outcome ∷ h) → Balances old h →
+      IsAmong (record { number = given_notice.batch; creator = given_notice.instance }) (unnoticed h)
   pub carries : (h : Record) (i : ℕ) → IsOfBatch h copy → IsLegal (Spent i copy.number outcome ∷ h) → Balances old h →
-      Balances new (Notice told.batch told.status ∷ Spent i copy.number outcome ∷ h)
+      Balances new (Notice given_notice.batch given_notice.status ∷ Spent i copy.number outcome ∷ h)
 
 -- an entry that is no birth, split, spend or notice
 abbrev pub IsAside : Entry → Type 0
@@ -130,11 +130,11 @@ OldestHeld =
     (h : Record) (p : Place) (copies : List Copy) → IsLegal h → IsOldest (numbers_of copies) (parcels_at p (stands h)) → AreOfBatch h copies →
     AreHeld h copies
 
--- an instance bore none of the open batches exactly where each batch of it is noticed
-abbrev pub NoneBorne : Type 0
-NoneBorne =
+-- an instance created none of the open batches exactly where each batch of it is noticed
+abbrev pub NoneCreated : Type 0
+NoneCreated =
     (account : Ledger) (h : Record) (i : ℕ) → Balances account h →
-    (borne_by i (batches_in account.open_rows) ≡ 0) ↔ (all_noticed h i ≡ true)
+    (created_by i (batches_in account.open_rows) ≡ 0) ↔ (all_noticed h i ≡ true)
 
 -- the lists that a split gives are the children that its entry has, for whatever targets
 abbrev pub ChildrenNoted : Type 0

@@ -5,7 +5,7 @@ ghost use Rattle.vx_ledger.specs.Routing.{targets_of, IfChildren, IsNoConsumer, 
 ghost use Rattle.vx_record.specs.Records.{Record};
 ghost use Rattle.vx_record.specs.Copies.{next_copy};
 ghost use Rattle.vx_balance.specs.Balances.{Balances, HasHeld};
-ghost use Rattle.vx_balance.specs.Promises.{Bears, Splits, Routes, LeavesOpen, ClosesBatch};
+ghost use Rattle.vx_balance.specs.Promises.{CreatesBatch, Splits, Routes, LeavesOpen, ClosesBatch};
 
 use std::alloc::Global;
 use std::marker::Model;
@@ -56,13 +56,13 @@ impl Balance {
         self.batches.is_settled()
     }
 
-    /// Bears a batch of `n` copies to an instance. Gives its number and the copies in order, each in a list of its own.
+    /// Creates a batch of `n` copies for an instance. Gives its number and the copies in order, each in a list of its own.
     ///
     /// `Numbers` comes exactly where their numbers would pass 2^63, and before memory is asked for. After a refusal nothing
     /// has changed.
-    pub fn bear_each(&mut self, instance: u32, n: u32) -> Result<(u64, FinalizersList), Short>
+    pub fn start_batch(&mut self, instance: u32, n: u32) -> Result<(u64, FinalizersList), Short>
         requires { 0 < n }
-        ensures bears { IfOk result (λ r. Bears instance n r.0 (joined r.1) self.old self.new) }
+        ensures creates { IfOk result (λ r. CreatesBatch instance n r.0 (joined r.1) self.old self.new) }
         ensures each { IfOk result (λ r. r.1 ≡ each_alone (joined r.1)) }
         ensures numbers { 2 ^ 63 < self.old.next + n → IsErr result }
         ensures cause { IfErr result (IsShort self.old.next n) }

@@ -1,6 +1,6 @@
 -- What is copied of a line.
 use Rattle.std.specs.Prelude.{◌≡◌, ◌≢◌, ℕ, ◌+◌, Bool, true, false, List, [], ◌∷◌, ◌++◌, if◌then◌else◌}
-use Rattle.vx_value.specs.Texts.{Word}
+use Rattle.vx_value.specs.Texts.{ByteString}
 use Rattle.vx_value.specs.Datum.{Fields, NamedDatum, named_of}
 use Rattle.vx_json.specs.Written.{written}
 use Rattle.vx_json.specs.Faults.{IsEvent, IsFault}
@@ -9,34 +9,34 @@ use Rattle.vx_json.specs.declared.json_fault.JsonFault.{JsonFault}
 use Rattle.vx_json.specs.declared.json_fault.JsonFault.TheVariants.{WantOfMemory}
 
 -- the bytes are an event, which is added in its one spelling with a line feed
-pub record IsEventCopied (bytes old new : Word) : Type 0 where
+pub record IsEventCopied (bytes old new : ByteString) : Type 0 where
   pub fields : List NamedDatum
   pub event : IsEvent bytes fields
   pub added : new ≡ old ++ (written (Fields (named_of fields)) ++ 10 ∷ [])
 
 -- the bytes are none, for a fault that isn't want of memory, and nothing is added
-pub record IsLeftOut (bytes old new : Word) : Type 0 where
+pub record IsLeftOut (bytes old new : ByteString) : Type 0 where
   pub fault : JsonFault
   pub theirs : fault ≢ WantOfMemory
   pub is_fault : IsFault bytes fault
   pub same : new ≡ old
 
-abbrev pub IsCopied : Word → Bool → Word → Word → Type 0
+abbrev pub IsCopied : ByteString → Bool → ByteString → ByteString → Type 0
 IsCopied bytes true old new = IsEventCopied bytes old new
 IsCopied bytes false old new = IsLeftOut bytes old new
 
 -- whether the bytes are an event
-pub record IsSomeEvent (bytes : Word) : Type 0 where
+pub record IsSomeEvent (bytes : ByteString) : Type 0 where
   pub fields : List NamedDatum
   pub event : IsEvent bytes fields
 
 -- the bytes have a fault that isn't want of memory
-pub record IsRefused (bytes : Word) : Type 0 where
+pub record IsRefused (bytes : ByteString) : Type 0 where
   pub fault : JsonFault
   pub theirs : fault ≢ WantOfMemory
   pub is_fault : IsFault bytes fault
 
-abbrev pub IsJudged : Word → Bool → Type 0
+abbrev pub IsJudged : ByteString → Bool → Type 0
 IsJudged bytes true = IsSomeEvent bytes
 IsJudged bytes false = IsRefused bytes
 
@@ -54,13 +54,13 @@ AreCounted [] n = n ≡ 0
 AreCounted (line ∷ lines) n = CountsMore line (AreCounted lines) n
 
 -- the first of some lines is copied, and then the others
-pub record CopiesMore (line : Line) (copies : Word → Type 0) (old : Word) : Type 0 where
+pub record CopiesMore (line : Line) (copies : ByteString → Type 0) (old : ByteString) : Type 0 where
   pub is_event : Bool
-  pub between : Word
+  pub between : ByteString
   pub copied : IsCopied line.bytes is_event old between
   pub others : copies between
 
 -- some lines are copied, each that is an event in its one spelling with a line feed
-abbrev pub AreCopied : List Line → Word → Word → Type 0
+abbrev pub AreCopied : List Line → ByteString → ByteString → Type 0
 AreCopied [] old new = new ≡ old
 AreCopied (line ∷ lines) old new = CopiesMore line (λ between. AreCopied lines between new) old

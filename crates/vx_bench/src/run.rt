@@ -32,7 +32,7 @@ fn give(rt: &HostRuntime, bytes: &[u8]) -> Result<(), BenchFault> {
 }
 
 /// Prints a number.
-fn tell(rt: &HostRuntime, count: u64) -> Result<(), BenchFault> {
+fn report(rt: &HostRuntime, count: u64) -> Result<(), BenchFault> {
     match println!(rt; "{count}") {
         Ok(()) => Ok(()),
         Err(_) => Err(BenchFault::Output),
@@ -42,15 +42,15 @@ fn tell(rt: &HostRuntime, count: u64) -> Result<(), BenchFault> {
 /// Does a task on standard input.
 pub fn run(rt: &HostRuntime, task: Task) -> Result<(), BenchFault> {
     match task {
-        Task::Lines | Task::Read => tell(rt, counted(rt, task)?),
+        Task::Lines | Task::Read => report(rt, counted(rt, task)?),
         Task::Copy => copy(rt),
-        Task::Text => tell(rt, fields_of_all(rt)?),
-        Task::Layers => tell_layers(rt),
+        Task::Text => report(rt, fields_of_all(rt)?),
+        Task::Layers => report_layers(rt),
     }
 }
 
 /// Prints how a plan of many layers was judged.
-fn tell_layers(rt: &HostRuntime) -> Result<(), BenchFault> {
+fn report_layers(rt: &HostRuntime) -> Result<(), BenchFault> {
     let (targets, waits, silent) = judged(rt.alloc())?;
     match println!(rt; "{targets} targets, waits: {waits}, where no sink acknowledges: {silent}") {
         Ok(()) => Ok(()),

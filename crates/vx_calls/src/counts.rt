@@ -16,7 +16,7 @@ fn a_source_counts(rt: HostRuntime) {
     let mut counts = Counts::none();
     counts.read(30, new);
     counts.read(u64::MAX, NewLines::none());
-    counts.bore(1);
+    counts.created_batch(1);
     counts.noticed(BatchStatus::Errored);
     counts.unread();
     counts.confirmed(&[

@@ -136,20 +136,20 @@ fn ledger_of_two_events(rt: HostRuntime) -> Result<(), Fail> {
 }
 
 // Spends all copies, and tells their numbers, the last one first.
-fn spend_all<R: Abort>(rt: &R, told: &mut Vec<u64>, batches: &mut Batches, copies: Finalizers)
+fn spend_all<R: Abort>(rt: &R, observed: &mut Vec<u64>, batches: &mut Batches, copies: Finalizers)
     requires { AreLive batches.old copies }
     ensures { Exchanges batches.old copies batches.new [] }
 {
     let mut rest = copies;
     while let Some(copy) = rest.pop() {
-        assert!(rt; told.push(copy.number()).is_ok());
+        assert!(rt; observed.push(copy.number()).is_ok());
         batches.spend(copy, Outcome::Delivered);
     }
     rest.end();
 }
 
 // Spends the copies of a parcel.
-fn spend_parcel<R: Abort>(rt: &R, told: &mut Vec<u64>, batches: &mut Batches, parcel: Parcel)
+fn spend_parcel<R: Abort>(rt: &R, observed: &mut Vec<u64>, batches: &mut Batches, parcel: Parcel)
     requires { AreLive batches.old parcel.finalizers }
     ensures { Exchanges batches.old parcel.finalizers batches.new [] }
 {
@@ -157,19 +157,24 @@ fn spend_parcel<R: Abort>(rt: &R, told: &mut Vec<u64>, batches: &mut Batches, pa
         event: _,
         finalizers,
     } = parcel;
-    spend_all(rt, told, batches, finalizers);
+    spend_all(rt, observed, batches, finalizers);
 }
 
 // Spends the copies of children. Tells for each its target and the numbers of its copies, all of it from the last to
 // the first.
-fn spend_children<R: Abort>(rt: &R, told: &mut Vec<u64>, batches: &mut Batches, children: ChildList)
+fn spend_children<R: Abort>(
+    rt: &R,
+    observed: &mut Vec<u64>,
+    batches: &mut Batches,
+    children: ChildList,
+)
     requires { AreLive batches.old (copies_in children) }
 {
     let mut rest = children;
     while let Some(child) = rest.pop() {
         let Child { target, parcel } = child;
-        assert!(rt; told.push(u64::from(target)).is_ok());
-        spend_parcel(rt, told, batches, parcel);
+        assert!(rt; observed.push(u64::from(target)).is_ok());
+        spend_parcel(rt, observed, batches, parcel);
     }
     rest.end();
 }
@@ -186,16 +191,16 @@ fn parcel_of_two(alloc: Global, batches: &mut Batches) -> Result<Parcel, Fail>
 // Routes a parcel with the copies 0 and 1, and tells of its children as above; or the numbers alone, where there is no
 // consumer.
 fn routed<R: Abort>(rt: &R, alloc: Global, outlet: &Outlet, ports: u128) -> Result<Vec<u64>, Fail> {
-    let mut told = Vec::new(alloc);
+    let mut observed = Vec::new(alloc);
     let mut batches = Batches::new(alloc)?;
     let parcel = parcel_of_two(alloc, &mut batches)?;
     match outlet.route(ports, parcel, &mut batches, Vec::new(alloc)) {
-        Ok(Routed::Children(children)) => spend_children(rt, &mut told, &mut batches, children),
-        Ok(Routed::NoConsumer(back)) => spend_parcel(rt, &mut told, &mut batches, back),
+        Ok(Routed::Children(children)) => spend_children(rt, &mut observed, &mut batches, children),
+        Ok(Routed::NoConsumer(back)) => spend_parcel(rt, &mut observed, &mut batches, back),
         Err(_refused) => panic!(rt; "refused"),
     }
     assert!(rt; batches.is_settled());
-    Ok(told)
+    Ok(observed)
 }
 
 // Checks what a route tells.
@@ -206,8 +211,8 @@ fn has_route<R: Abort>(
     ports: u128,
     want: &[u64],
 ) -> Result<(), Fail> {
-    let told = routed(rt, alloc, outlet, ports)?;
-    assert_eq!(rt; told.as_slice(), want);
+    let observed = routed(rt, alloc, outlet, ports)?;
+    assert_eq!(rt; observed.as_slice(), want);
     Ok(())
 }
 

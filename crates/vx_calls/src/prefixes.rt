@@ -7,7 +7,7 @@ use vx_status::BatchStatus;
 use vx_value::WantOfMemory;
 
 /// Adds a batch that ends at a position.
-fn bear_on(
+fn create_batch_on(
     prefix: &mut Prefix,
     alloc: Global,
     batch: u64,
@@ -19,12 +19,17 @@ fn bear_on(
 }
 
 /// Adds a batch that ends at a place of stream 0.
-fn bear(prefix: &mut Prefix, alloc: Global, batch: u64, end: u64) -> Result<(), WantOfMemory> {
-    bear_on(prefix, alloc, batch, Position { stream: 0, end })
+fn create_batch(
+    prefix: &mut Prefix,
+    alloc: Global,
+    batch: u64,
+    end: u64,
+) -> Result<(), WantOfMemory> {
+    create_batch_on(prefix, alloc, batch, Position { stream: 0, end })
 }
 
 /// Tells the notice of a batch.
-fn tell(prefix: &mut Prefix, batch: u64, status: BatchStatus) {
+fn report(prefix: &mut Prefix, batch: u64, status: BatchStatus) {
     prefix.notice(Notice {
         batch,
         instance: 0,
@@ -44,15 +49,15 @@ fn due_end(due: Option<&PositionList>) -> Option<u64> {
 #[test]
 fn confirm_prefix(rt: HostRuntime) -> Result<(), Fail> {
     let mut prefix = Prefix::new(rt.alloc(), true);
-    bear(&mut prefix, rt.alloc(), 0, 2)?;
-    bear(&mut prefix, rt.alloc(), 1, 4)?;
-    bear(&mut prefix, rt.alloc(), 2, 6)?;
-    tell(&mut prefix, 1, BatchStatus::Delivered);
+    create_batch(&mut prefix, rt.alloc(), 0, 2)?;
+    create_batch(&mut prefix, rt.alloc(), 1, 4)?;
+    create_batch(&mut prefix, rt.alloc(), 2, 6)?;
+    report(&mut prefix, 1, BatchStatus::Delivered);
     assert!(rt; prefix.due().is_none());
-    tell(&mut prefix, 0, BatchStatus::Delivered);
+    report(&mut prefix, 0, BatchStatus::Delivered);
     assert_eq!(rt; due_end(prefix.due()), Some(4));
     assert!(rt; prefix.take_due().is_some());
-    tell(&mut prefix, 2, BatchStatus::Errored);
+    report(&mut prefix, 2, BatchStatus::Errored);
     assert!(rt; prefix.due().is_none());
     Ok(())
 }
@@ -62,11 +67,11 @@ fn confirm_prefix(rt: HostRuntime) -> Result<(), Fail> {
 #[test]
 fn confirmed_at_birth(rt: HostRuntime) -> Result<(), Fail> {
     let mut prefix = Prefix::new(rt.alloc(), false);
-    bear(&mut prefix, rt.alloc(), 0, 2)?;
+    create_batch(&mut prefix, rt.alloc(), 0, 2)?;
     assert_eq!(rt; due_end(prefix.take_due().as_ref()), Some(2));
     assert!(rt; prefix.due().is_none());
-    tell(&mut prefix, 0, BatchStatus::Errored);
-    bear(&mut prefix, rt.alloc(), 1, 4)?;
+    report(&mut prefix, 0, BatchStatus::Errored);
+    create_batch(&mut prefix, rt.alloc(), 1, 4)?;
     assert_eq!(rt; due_end(prefix.due()), Some(4));
     Ok(())
 }
@@ -83,10 +88,10 @@ fn two_ends(due: Option<&PositionList>) -> Option<[u64; 4]> {
 #[test]
 fn confirmed_by_streams(rt: HostRuntime) -> Result<(), Fail> {
     let mut prefix = Prefix::new(rt.alloc(), false);
-    bear_on(&mut prefix, rt.alloc(), 0, Position { stream: 1, end: 3 })?;
-    bear_on(&mut prefix, rt.alloc(), 1, Position { stream: 0, end: 2 })?;
+    create_batch_on(&mut prefix, rt.alloc(), 0, Position { stream: 1, end: 3 })?;
+    create_batch_on(&mut prefix, rt.alloc(), 1, Position { stream: 0, end: 2 })?;
     assert!(rt; two_ends(prefix.take_due().as_ref()) == Some([0, 2, 1, 3]));
-    bear_on(&mut prefix, rt.alloc(), 2, Position { stream: 1, end: 5 })?;
+    create_batch_on(&mut prefix, rt.alloc(), 2, Position { stream: 1, end: 5 })?;
     assert!(rt; two_ends(prefix.due()) == Some([0, 2, 1, 5]));
     Ok(())
 }

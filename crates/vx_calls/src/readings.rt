@@ -276,7 +276,7 @@ fn is_bad(rt: &impl Abort, alloc: Global, options: &str, path: &str) -> Result<(
 }
 
 #[test]
-fn a_bad_value_is_told_at_its_option(rt: HostRuntime) -> Result<(), Fail> {
+fn a_bad_value_is_reported_at_its_option(rt: HostRuntime) -> Result<(), Fail> {
     for (options, path) in BAD {
         is_bad(&rt, rt.alloc(), *options, *path)?;
     }

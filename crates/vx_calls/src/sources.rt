@@ -64,7 +64,7 @@ fn lines_of(cut: &Option<Cut>) -> Option<(usize, u64, NewLines)> {
 }
 
 /// What is told of a turn.
-fn told_of(turned: &Turned) -> Came {
+fn observed_of(turned: &Turned) -> Came {
     match turned {
         Turned::Lines { stream, n, cut, .. } => Came {
             kind: "lines",
@@ -100,7 +100,7 @@ fn turns<P: Port>(
     want: &Came,
 ) -> Result<(), Fail> {
     let turned = core.turn(port)?;
-    assert!(rt; told_of(&turned) == *want);
+    assert!(rt; observed_of(&turned) == *want);
     Ok(())
 }
 

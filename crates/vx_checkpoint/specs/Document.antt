@@ -4,11 +4,11 @@ use Rattle.std.specs.Ordering.{int_eq}
 use Rattle.serde_json.specs.Data.{Data, number, unsigned, string, object, Members, no_members, member}
 use Rattle.serde_json.specs.Find.{get, as_number, as_i64, as_u64, as_str, as_object}
 use Rattle.serde_json.specs.Events.{members_len}
-use Rattle.vx_value.specs.Texts.{Word}
+use Rattle.vx_value.specs.Texts.{ByteString}
 
 -- what a document says
 pub data Reading : Type 0 where
-  Mark : (path : Word) → (offset : ℕ) → Reading
+  Mark : (path : ByteString) → (offset : ℕ) → Reading
   OtherVersion : ℤ → Reading
   Misshapen : Reading
 
@@ -26,7 +26,7 @@ unfoldable pub version_of : Data → Option ℤ
 version_of document = option_and_then as_i64 (option_and_then as_number (get (codes "version") document))
 
 -- the path, where it is a text
-unfoldable pub path_of : Data → Option Word
+unfoldable pub path_of : Data → Option ByteString
 path_of document = option_and_then as_str (get (codes "path") document)
 
 -- the offset, where it is a whole number that isn't negative
@@ -34,7 +34,7 @@ unfoldable pub offset_of : Data → Option ℕ
 offset_of document = option_and_then as_u64 (option_and_then as_number (get (codes "offset") document))
 
 -- the mark of a path and an offset, if both are there and the offset is below 2^63
-abbrev pub mark : Option Word → Option ℕ → Reading
+abbrev pub mark : Option ByteString → Option ℕ → Reading
 mark None offset = Misshapen
 mark (Some path) None = Misshapen
 mark (Some path) (Some offset) = if nat_lt offset (2 ^ 63) then Mark path offset else Misshapen
@@ -53,7 +53,7 @@ unfoldable pub reading : Data → Reading
 reading document = by_version document (version_of document)
 
 -- the document of a path and an offset
-unfoldable pub document_of : Word → ℕ → Data
+unfoldable pub document_of : ByteString → ℕ → Data
 document_of path offset =
     object (member (codes "offset") (number (unsigned offset))
     (member (codes "path") (string path) (member (codes "version") (number (unsigned 1)) no_members)))

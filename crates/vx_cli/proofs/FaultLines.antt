@@ -6,7 +6,7 @@ use Rattle.std.specs.List.{All, list_all}
 use Rattle.std.proofs.lemmas.Bool.Decides.{nat_tests}
 use Rattle.std.proofs.lemmas.List.Elements.{All-append, All-from_recursion, All-nil, All-weaker}
 use Rattle.std.proofs.lemmas.List.Sums.{AllPass-from_list_all}
-use Rattle.vx_value.specs.Texts.{Word}
+use Rattle.vx_value.specs.Texts.{ByteString}
 use Rattle.vx_graph.specs.declared.graph_fault.GraphFault.{GraphFault}
 use Rattle.vx_graph.specs.declared.graph_fault.GraphFault.TheVariants as graph
 use Rattle.vx_reading.specs.declared.plan_fault.PlanFault.{PlanFault}
@@ -19,7 +19,7 @@ use Rattle.vx_cli.specs.declared.fault.Fault.TheVariants.{Usage, ConfigRead, Con
 use Rattle.vx_cli.proofs.Printed.{plain_bytes, plain_digits, shown_unhidden}
 
 -- a text without a byte of a control
-record IsPlainText (text : Word) : Type 0 where
+record IsPlainText (text : ByteString) : Type 0 where
   bytes : All IsPlainByte text
 
 abbrev is_plain : ℕ → Bool
@@ -29,14 +29,14 @@ seen : (b : ℕ) → is_plain b ≡ true → IsPlainByte b
 seen b h = grind (arith, nat_tests)
 
 -- words that are written out
-words : (text : Word) → list_all is_plain text ≡ true → IsPlainText text
+words : (text : ByteString) → list_all is_plain text ≡ true → IsPlainText text
 words text h = record { bytes = All-weaker (λ b. is_plain b ≡ true) IsPlainByte seen text (AllPass-from_list_all is_plain text h) }
 
-joined : {front rest : Word} → IsPlainText front → IsPlainText rest → IsPlainText (front ++ rest)
+joined : {front rest : ByteString} → IsPlainText front → IsPlainText rest → IsPlainText (front ++ rest)
 joined {front} {rest} f r = record { bytes = All-append IsPlainByte front rest f.bytes r.bytes }
 
 -- such words, and a text behind them
-led : (front : Word) {rest : Word} → list_all is_plain front ≡ true → IsPlainText rest → IsPlainText (front ++ rest)
+led : (front : ByteString) {rest : ByteString} → list_all is_plain front ≡ true → IsPlainText rest → IsPlainText (front ++ rest)
 led front h r = joined (words front h) r
 
 nothing : IsPlainText []
@@ -48,17 +48,17 @@ number n = record {
       (All-from_recursion (IsInRange 32 126) (decimal n) (plain_digits 10 n (omega arith) (omega arith)));
 }
 
-name_of : (name : Word) → IsPlainText (shown name)
+name_of : (name : ByteString) → IsPlainText (shown name)
 name_of name = record { bytes = plain_bytes (shown name) (shown_unhidden name) }
 
 -- ---- what faults say
 
-names_of : (names : List Word) → IsPlainText (listed names)
+names_of : (names : List ByteString) → IsPlainText (listed names)
 names_of [] = nothing
 names_of (name ∷ []) = name_of name
 names_of (name ∷ other ∷ rest) = joined (name_of name) (led (codes ", ") refl (names_of (other ∷ rest)))
 
-place : (name : Word) → IsPlainText (of_component name)
+place : (name : ByteString) → IsPlainText (of_component name)
 place name = led (codes " of component ") refl (name_of name)
 
 graph_reason : (fault : GraphFault) → IsPlainText (graph_text fault)

@@ -11,7 +11,7 @@ use Rattle.clap.specs.Walk.{Held, Rule, Text, Walk, arg_by_long, arg_by_short, a
 use Rattle.clap.specs.Simple.{Shape, built, filled, with_index}
 use Rattle.clap.specs.Faults.{bundle_fault, bundle_step_fault, flags_fault, long_fault, option_fault, short_fault, turn_fault, walk_fault, word_fault}
 use Rattle.clap.proofs.OnLiterals.{clap_on_literals}
-use Rattle.vx_value.specs.Texts.{Word}
+use Rattle.vx_value.specs.Texts.{ByteString}
 use Rattle.vx_cli.specs.Commands.{IsCommand, IsNoCommand}
 use Rattle.vx_cli.specs.Grammars.{config_option, once_flag, run_grammar, stats_flag, validate_grammar}
 use Rattle.vx_cli.specs.Spellings.{IsHyphened}
@@ -31,7 +31,7 @@ second [] [] c d f = cc
 
 -- ---- the first character of a text
 
-begins : (b : ℕ) (rest : Word) → IsUtf8 (45 ∷ b ∷ rest) → chars (b ∷ rest) ≡ [] → ⊥
+begins : (b : ℕ) (rest : ByteString) → IsUtf8 (45 ∷ b ∷ rest) → chars (b ∷ rest) ≡ [] → ⊥
 unfolding chars
 begins b rest u none =
     let alone : chars (45 ∷ b ∷ rest) ≡ 45 ∷ [] = ap (λ cs. 45 ∷ cs) none in
@@ -96,7 +96,7 @@ bundle_begins : (cs : List ℕ) (flags : Text) (next : Text → ℕ → Held →
 bundle_begins [] flags next some = absurd (some refl)
 bundle_begins (c ∷ cs) flags next some = short_faulty c _ _
 
-bundle_faulty : (b : ℕ) (rest : Word) → IsUtf8 (45 ∷ b ∷ rest) → is_faulty (bundle_fault config false (b ∷ rest) waiting) ≡ true
+bundle_faulty : (b : ℕ) (rest : ByteString) → IsUtf8 (45 ∷ b ∷ rest) → is_faulty (bundle_fault config false (b ∷ rest) waiting) ≡ true
 unfolding flags_fault
 bundle_faulty b rest u = bundle_begins (chars (b ∷ rest)) (b ∷ rest) _ (begins b rest u)
 
@@ -105,25 +105,25 @@ bundle_faulty b rest u = bundle_begins (chars (b ∷ rest)) (b ∷ rest) _ (begi
 abbrev before : Walk
 before = record { held = waiting; waiting = option (codes "config"); position = 1; is_trailing = false; stopped = None }
 
-turn : (word : Word) → is_faulty (word_fault top [] false before.waiting word waiting) ≡ true → is_faulty (turn_fault top [] before word) ≡ true
+turn : (word : ByteString) → is_faulty (word_fault top [] false before.waiting word waiting) ≡ true → is_faulty (turn_fault top [] before word) ≡ true
 turn word f = first (word_fault top [] false before.waiting word waiting) _ f
 
-long_word : (b : ℕ) (rest : Word) → is_faulty (word_fault top [] false before.waiting (45 ∷ 45 ∷ b ∷ rest) waiting) ≡ true
+long_word : (b : ℕ) (rest : ByteString) → is_faulty (word_fault top [] false before.waiting (45 ∷ 45 ∷ b ∷ rest) waiting) ≡ true
 long_word b rest = long_faulty (name_and_value (b ∷ rest)).0 (name_and_value (b ∷ rest)).1
 
-short_word : (b : ℕ) (rest : Word) → (b == 45) ≡ false → IsUtf8 (45 ∷ b ∷ rest)
+short_word : (b : ℕ) (rest : ByteString) → (b == 45) ≡ false → IsUtf8 (45 ∷ b ∷ rest)
     → is_faulty (word_fault top [] false before.waiting (45 ∷ b ∷ rest) waiting) ≡ true
 short_word b rest other u = rw (other) (rw (other) (bundle_faulty b rest u))
 
-long_turn : (b : ℕ) (rest : Word) → is_faulty (turn_fault top [] before (45 ∷ 45 ∷ b ∷ rest)) ≡ true
+long_turn : (b : ℕ) (rest : ByteString) → is_faulty (turn_fault top [] before (45 ∷ 45 ∷ b ∷ rest)) ≡ true
 long_turn b rest = turn (45 ∷ 45 ∷ b ∷ rest) (long_word b rest)
 
-short_turn : (b : ℕ) (rest : Word) → (b == 45) ≡ false → IsUtf8 (45 ∷ b ∷ rest) → is_faulty (turn_fault top [] before (45 ∷ b ∷ rest)) ≡ true
+short_turn : (b : ℕ) (rest : ByteString) → (b == 45) ≡ false → IsUtf8 (45 ∷ b ∷ rest) → is_faulty (turn_fault top [] before (45 ∷ b ∷ rest)) ≡ true
 short_turn b rest other u = turn (45 ∷ b ∷ rest) (short_word b rest other u)
 
 -- ---- the words of a run
 
-behind : (start word : Word) (rest : List Word) → walked config [] (walk_from nothing_held) start ≡ before
+behind : (start word : ByteString) (rest : List ByteString) → walked config [] (walk_from nothing_held) start ≡ before
     → is_faulty (turn_fault top [] before word) ≡ true → is_faulty (fault_of run_grammar (start ∷ word ∷ rest)) ≡ true
 unfolding walk_fault
 behind start word rest same f =
@@ -133,23 +133,23 @@ hyphen : (b : ℕ) → (b == 45) ≡ true → b ≡ 45
 hyphen b e = grind (arith, nat_tests)
 
 -- whether words behind an option give a fault
-abbrev Refused : Word → Word → List Word → Type 0
+abbrev Refused : ByteString → ByteString → List ByteString → Type 0
 Refused start word rest = is_faulty (fault_of run_grammar (start ∷ word ∷ rest)) ≡ true
 
-by_test : (start : Word) → walked config [] (walk_from nothing_held) start ≡ before → ((rest : List Word) → Refused start (codes "--") rest)
-    → (t : Bool) (b : ℕ) (w : Word) (rest : List Word) → (b == 45) ≡ t → IsUtf8 (45 ∷ b ∷ w) → Refused start (45 ∷ b ∷ w) rest
+by_test : (start : ByteString) → walked config [] (walk_from nothing_held) start ≡ before → ((rest : List ByteString) → Refused start (codes "--") rest)
+    → (t : Bool) (b : ℕ) (w : ByteString) (rest : List ByteString) → (b == 45) ≡ t → IsUtf8 (45 ∷ b ∷ w) → Refused start (45 ∷ b ∷ w) rest
 by_test start same dashes false b w rest e u = behind start (45 ∷ b ∷ w) rest same (short_turn b w e u)
 by_test start same dashes true b [] rest e u =
     subst (λ x. Refused start (45 ∷ x ∷ []) rest) (sym (hyphen b e)) (dashes rest)
 by_test start same dashes true b (c ∷ w) rest e u =
     subst (λ x. Refused start (45 ∷ x ∷ c ∷ w) rest) (sym (hyphen b e)) (behind start (45 ∷ 45 ∷ c ∷ w) rest same (long_turn c w))
 
-long_dashes : (rest : List Word) → Refused (codes "--config") (codes "--") rest
+long_dashes : (rest : List ByteString) → Refused (codes "--config") (codes "--") rest
 unfolding clap_on_literals
 long_dashes [] = refl
 long_dashes (w ∷ rest) = refl
 
-short_dashes : (rest : List Word) → Refused (codes "-c") (codes "--") rest
+short_dashes : (rest : List ByteString) → Refused (codes "-c") (codes "--") rest
 unfolding clap_on_literals
 short_dashes [] = refl
 short_dashes (w ∷ rest) = refl
@@ -162,7 +162,7 @@ short_before : walked config [] (walk_from nothing_held) (codes "-c") ≡ before
 unfolding clap_on_literals
 short_before = refl
 
-pub long_hyphened : (word : Word) (rest : List Word) → IsUtf8 word → IsHyphened word → IsNoCommand (codes "--config" ∷ word ∷ rest)
+pub long_hyphened : (word : ByteString) (rest : List ByteString) → IsUtf8 word → IsHyphened word → IsNoCommand (codes "--config" ∷ word ∷ rest)
 long_hyphened [] rest u h = absurd h
 long_hyphened (a ∷ []) rest u h = absurd h
 long_hyphened (a ∷ b ∷ w) rest u h =
@@ -170,7 +170,7 @@ long_hyphened (a ∷ b ∷ w) rest u h =
     subst (λ x. IsNoCommand (codes "--config" ∷ (x ∷ b ∷ w) ∷ rest)) (sym h)
     (no_run (codes "--config" ∷ (45 ∷ b ∷ w) ∷ rest) refl (by_test (codes "--config") long_before long_dashes (b == 45) b w rest refl utf8))
 
-pub short_hyphened : (word : Word) (rest : List Word) → IsUtf8 word → IsHyphened word → IsNoCommand (codes "-c" ∷ word ∷ rest)
+pub short_hyphened : (word : ByteString) (rest : List ByteString) → IsUtf8 word → IsHyphened word → IsNoCommand (codes "-c" ∷ word ∷ rest)
 short_hyphened [] rest u h = absurd h
 short_hyphened (a ∷ []) rest u h = absurd h
 short_hyphened (a ∷ b ∷ w) rest u h =
@@ -186,12 +186,12 @@ judging = (built validate_grammar).top
 abbrev start : Walk
 start = walk_from nothing_held
 
-at_once : (word : Word) (rest : List Word) → is_faulty (word_fault judging [] false start.waiting word nothing_held) ≡ true
+at_once : (word : ByteString) (rest : List ByteString) → is_faulty (word_fault judging [] false start.waiting word nothing_held) ≡ true
     → is_faulty (fault_of validate_grammar (word ∷ rest)) ≡ true
 unfolding walk_fault
 at_once word rest f = first _ _ (first _ _ (first (word_fault judging [] false start.waiting word nothing_held) _ f))
 
-long_at_once : (b : ℕ) (rest : Word) → is_faulty (word_fault judging [] false start.waiting (45 ∷ 45 ∷ b ∷ rest) nothing_held) ≡ true
+long_at_once : (b : ℕ) (rest : ByteString) → is_faulty (word_fault judging [] false start.waiting (45 ∷ 45 ∷ b ∷ rest) nothing_held) ≡ true
 long_at_once b rest = refl
 
 unknown : (cs : List ℕ) (flags : Text) (next : Text → ℕ → Held → Kinds) → (cs ≡ [] → ⊥)
@@ -199,26 +199,26 @@ unknown : (cs : List ℕ) (flags : Text) (next : Text → ℕ → Held → Kinds
 unknown [] flags next some = absurd (some refl)
 unknown (c ∷ cs) flags next some = refl
 
-bundle_at_once : (b : ℕ) (rest : Word) → IsUtf8 (45 ∷ b ∷ rest) → is_faulty (bundle_fault judging.rules false (b ∷ rest) nothing_held) ≡ true
+bundle_at_once : (b : ℕ) (rest : ByteString) → IsUtf8 (45 ∷ b ∷ rest) → is_faulty (bundle_fault judging.rules false (b ∷ rest) nothing_held) ≡ true
 unfolding flags_fault
 bundle_at_once b rest u = unknown (chars (b ∷ rest)) (b ∷ rest) _ (begins b rest u)
 
-short_at_once : (b : ℕ) (rest : Word) → (b == 45) ≡ false → IsUtf8 (45 ∷ b ∷ rest)
+short_at_once : (b : ℕ) (rest : ByteString) → (b == 45) ≡ false → IsUtf8 (45 ∷ b ∷ rest)
     → is_faulty (word_fault judging [] false start.waiting (45 ∷ b ∷ rest) nothing_held) ≡ true
 short_at_once b rest other u = rw (other) (rw (other) (bundle_at_once b rest u))
 
 -- whether words give a fault
-abbrev Misjudged : Word → List Word → Type 0
+abbrev Misjudged : ByteString → List ByteString → Type 0
 Misjudged word rest = is_faulty (fault_of validate_grammar (word ∷ rest)) ≡ true
 
-misjudged : (t : Bool) (b : ℕ) (w : Word) (rest : List Word) → (b == 45) ≡ t → IsUtf8 (45 ∷ b ∷ w) → 45 ∷ b ∷ w ≢ codes "--"
+misjudged : (t : Bool) (b : ℕ) (w : ByteString) (rest : List ByteString) → (b == 45) ≡ t → IsUtf8 (45 ∷ b ∷ w) → 45 ∷ b ∷ w ≢ codes "--"
     → Misjudged (45 ∷ b ∷ w) rest
 misjudged false b w rest e u other = at_once (45 ∷ b ∷ w) rest (short_at_once b w e u)
 misjudged true b [] rest e u other = absurd (other (ap (λ x. 45 ∷ x ∷ []) (hyphen b e)))
 misjudged true b (c ∷ w) rest e u other =
     subst (λ x. Misjudged (45 ∷ x ∷ c ∷ w) rest) (sym (hyphen b e)) (at_once (45 ∷ 45 ∷ c ∷ w) rest (long_at_once c w))
 
-pub validate_hyphened : (word : Word) (rest : List Word) → IsUtf8 word → IsHyphened word → word ≢ codes "--"
+pub validate_hyphened : (word : ByteString) (rest : List ByteString) → IsUtf8 word → IsHyphened word → word ≢ codes "--"
     → IsNoCommand (codes "validate" ∷ word ∷ rest)
 validate_hyphened [] rest u h other = absurd h
 validate_hyphened (a ∷ []) rest u h other = absurd h

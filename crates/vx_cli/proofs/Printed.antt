@@ -10,7 +10,7 @@ use Rattle.std.proofs.lemmas.Bool.Decides.{nat_tests}
 use Rattle.std.proofs.lemmas.List.{append-nil}
 use Rattle.std.proofs.lemmas.List.Elements.{All-from_get_or}
 use Rattle.std.proofs.lemmas.Str.{NoCharPasses-nil, NoCharPasses-append, NoCharPasses-byte, encode_ascii}
-use Rattle.vx_value.specs.Texts.{Word}
+use Rattle.vx_value.specs.Texts.{ByteString}
 use Rattle.vx_cli.specs.Lines.{IsPlainByte}
 use Rattle.vx_cli.specs.Shown.{is_hidden, shown, shown_char, shown_within}
 
@@ -19,7 +19,7 @@ not_hidden : (b : ℕ) → IsInRange 32 126 b → is_hidden b ≡ false
 not_hidden b h = grind (arith, nat_tests)
 
 -- and no text of such characters has a hidden one
-unhidden : (bs : Word) → AllByRecursion (IsInRange 32 126) bs → NoCharPasses is_hidden bs
+unhidden : (bs : ByteString) → AllByRecursion (IsInRange 32 126) bs → NoCharPasses is_hidden bs
 unhidden [] h = NoCharPasses-nil is_hidden
 unhidden (b ∷ bs) h =
     let one : NoCharPasses is_hidden (b ∷ []) = (b ∷ [], append-nil (encode_utf8 b) ∙ encode_ascii b (omega arith), (not_hidden b h.0, tt)) in
@@ -29,7 +29,7 @@ unhidden (b ∷ bs) h =
 glyph : (d : ℕ) → d < 16 → IsInRange 32 126 (digit_glyph false d)
 glyph d h = grind (arith, nat_tests)
 
-digits_so_far : (k base n : ℕ) (acc : Word) → 0 < base → base ≤ 16 → AllByRecursion (IsInRange 32 126) acc
+digits_so_far : (k base n : ℕ) (acc : ByteString) → 0 < base → base ≤ 16 → AllByRecursion (IsInRange 32 126) acc
     → AllByRecursion (IsInRange 32 126) (digits_onto k base false n acc)
 digits_so_far zero base n acc low high h = h
 digits_so_far (suc k) base n acc low high h =
@@ -58,7 +58,7 @@ within_unhidden room (c ∷ cs) = cond_both _ _ _ (NoCharPasses is_hidden)
     (λ _. NoCharPasses-append is_hidden _ _ (char_unhidden c) (within_unhidden (room - length (shown_char c)) cs))
     (λ _. unhidden (codes "..") (search rules))
 
-pub shown_unhidden : (text : Word) → NoCharPasses is_hidden (shown text)
+pub shown_unhidden : (text : ByteString) → NoCharPasses is_hidden (shown text)
 unfolding shown
 shown_unhidden text = within_unhidden 256 (chars text)
 
@@ -66,12 +66,12 @@ shown_unhidden text = within_unhidden 256 (chars text)
 seen : (b : ℕ) → is_hidden b ≡ false → IsPlainByte b
 seen b h = grind (arith, nat_tests)
 
-plain_byte : (text : Word) (i : ℕ) → NoCharPasses is_hidden text → i < length text → IsPlainByte (get_or text i 0)
+plain_byte : (text : ByteString) (i : ℕ) → NoCharPasses is_hidden text → i < length text → IsPlainByte (get_or text i 0)
 plain_byte text i h at = ⊎_elim
     (λ low. let shown : is_hidden (get_or text i 0) ≡ false = NoCharPasses-byte is_hidden text i h at low in seen (get_or text i 0) shown)
     (λ high. (omega arith, omega arith)) (cases_lt (get_or text i 0) 128)
 
-pub plain_bytes : (text : Word) → NoCharPasses is_hidden text → All IsPlainByte text
+pub plain_bytes : (text : ByteString) → NoCharPasses is_hidden text → All IsPlainByte text
 plain_bytes text h = All-from_get_or IsPlainByte text 0 (λ i at. plain_byte text i h at)
 
 -- what is printed in some room
@@ -84,6 +84,6 @@ within_bounded room (c ∷ cs) =
     (λ e. omega (arith, length-append front rest, leb-true (length front) room e, within_bounded (room - length front) cs))
     (λ _. omega arith)
 
-pub bounded : (text : Word) → length (shown text) ≤ 258
+pub bounded : (text : ByteString) → length (shown text) ≤ 258
 unfolding shown
 bounded text = within_bounded 256 (chars text)

@@ -3,7 +3,7 @@ use Rattle.std.proofs.Common.{◌≡◌, ◌≢◌, ℕ, ◌==◌, ap, subst, re
 use Rattle.std.proofs.lemmas.Bool.Decides.{nat_tests}
 use Rattle.clap.specs.Words.{App, Kinds, fault_of}
 use Rattle.clap.proofs.OnLiterals.{clap_on_literals}
-use Rattle.vx_value.specs.Texts.{Word}
+use Rattle.vx_value.specs.Texts.{ByteString}
 use Rattle.vx_cli.specs.Commands.{HasValue, IsCommand, IsNoCommand, IsTaken, IsValidate, NamesValidate, has_once, has_stats}
 use Rattle.vx_cli.specs.Grammars.{run_grammar, validate_grammar}
 use Rattle.vx_cli.specs.Spellings.{IsPlain}
@@ -14,126 +14,126 @@ apart : (a b : ℕ) → (a ≡ b → ⊥) → (a == b) ≡ false
 apart a b h = grind (arith, nat_tests)
 
 -- a plain word's first byte is no hyphen
-no_hyphen : (b : ℕ) (word : Word) → IsPlain (b ∷ word) → (b == 45) ≡ false
+no_hyphen : (b : ℕ) (word : ByteString) → IsPlain (b ∷ word) → (b == 45) ≡ false
 no_hyphen b word plain = apart b 45 (λ e. plain word (ap (λ x. x ∷ word) e))
 
 -- the first byte of the first word
-abbrev first_byte : List Word → ℕ
+abbrev first_byte : List ByteString → ℕ
 first_byte [] = 0
 first_byte ([] ∷ ws) = 0
 first_byte ((b ∷ w) ∷ ws) = b
 
 -- words that begin with another byte than `validate` don't name it
-unnamed : (words : List Word) → (first_byte words == 118) ≡ false → (rest : List Word) → NamesValidate words rest → ⊥
+unnamed : (words : List ByteString) → (first_byte words == 118) ≡ false → (rest : List ByteString) → NamesValidate words rest → ⊥
 unnamed words other rest e =
     let same : first_byte words ≡ 118 = ap first_byte e in
     let P : ℕ → Type 0 = λ n. (n == 118) ≡ false in
     let bad : true ≡ false = subst P same other in cc
 
 -- what a run needs
-pub run_of : (words : List Word) (file : Word) (once stats : Bool) → (first_byte words == 118) ≡ false → IsTaken run_grammar words
+pub run_of : (words : List ByteString) (file : ByteString) (once stats : Bool) → (first_byte words == 118) ≡ false → IsTaken run_grammar words
     → HasValue run_grammar words (codes "config") file → has_once words ≡ once → has_stats words ≡ stats → IsCommand words (Run file once stats)
 run_of words file once stats other taken value ends asked = (record { unnamed = unnamed words other; taken = taken; config = value }, (ends, asked))
 
 -- what a judging needs
-pub validate_of : (rest : List Word) (file : Word) → IsTaken validate_grammar rest
+pub validate_of : (rest : List ByteString) (file : ByteString) → IsTaken validate_grammar rest
     → HasValue validate_grammar rest (codes "path") file → IsValidate (codes "validate" ∷ rest) file
 validate_of rest file taken value = record { rest = rest; named = refl; taken = taken; path = value }
 
 -- ---- files
 
-long-taken : (file : Word) → IsPlain file → IsTaken run_grammar (codes "--config" ∷ file ∷ [])
+long-taken : (file : ByteString) → IsPlain file → IsTaken run_grammar (codes "--config" ∷ file ∷ [])
 unfolding clap_on_literals
 long-taken [] plain = refl
 long-taken (b ∷ word) plain = simp (no_hyphen b word plain)
 
-long-value : (file : Word) → IsPlain file → HasValue run_grammar (codes "--config" ∷ file ∷ []) (codes "config") file
+long-value : (file : ByteString) → IsPlain file → HasValue run_grammar (codes "--config" ∷ file ∷ []) (codes "config") file
 unfolding clap_on_literals
 long-value [] plain = refl
 long-value (b ∷ word) plain = simp (no_hyphen b word plain)
 
-long-endless : (file : Word) → IsPlain file → has_once (codes "--config" ∷ file ∷ []) ≡ false
+long-endless : (file : ByteString) → IsPlain file → has_once (codes "--config" ∷ file ∷ []) ≡ false
 unfolding clap_on_literals
 long-endless [] plain = refl
 long-endless (b ∷ word) plain = simp (no_hyphen b word plain)
 
-long-silent : (file : Word) → IsPlain file → has_stats (codes "--config" ∷ file ∷ []) ≡ false
+long-silent : (file : ByteString) → IsPlain file → has_stats (codes "--config" ∷ file ∷ []) ≡ false
 unfolding clap_on_literals
 long-silent [] plain = refl
 long-silent (b ∷ word) plain = simp (no_hyphen b word plain)
 
-short-taken : (file : Word) → IsPlain file → IsTaken run_grammar (codes "-c" ∷ file ∷ [])
+short-taken : (file : ByteString) → IsPlain file → IsTaken run_grammar (codes "-c" ∷ file ∷ [])
 unfolding clap_on_literals
 short-taken [] plain = refl
 short-taken (b ∷ word) plain = simp (no_hyphen b word plain)
 
-short-value : (file : Word) → IsPlain file → HasValue run_grammar (codes "-c" ∷ file ∷ []) (codes "config") file
+short-value : (file : ByteString) → IsPlain file → HasValue run_grammar (codes "-c" ∷ file ∷ []) (codes "config") file
 unfolding clap_on_literals
 short-value [] plain = refl
 short-value (b ∷ word) plain = simp (no_hyphen b word plain)
 
-short-endless : (file : Word) → IsPlain file → has_once (codes "-c" ∷ file ∷ []) ≡ false
+short-endless : (file : ByteString) → IsPlain file → has_once (codes "-c" ∷ file ∷ []) ≡ false
 unfolding clap_on_literals
 short-endless [] plain = refl
 short-endless (b ∷ word) plain = simp (no_hyphen b word plain)
 
-short-silent : (file : Word) → IsPlain file → has_stats (codes "-c" ∷ file ∷ []) ≡ false
+short-silent : (file : ByteString) → IsPlain file → has_stats (codes "-c" ∷ file ∷ []) ≡ false
 unfolding clap_on_literals
 short-silent [] plain = refl
 short-silent (b ∷ word) plain = simp (no_hyphen b word plain)
 
-validate-taken : (file : Word) → IsPlain file → IsTaken validate_grammar (file ∷ [])
+validate-taken : (file : ByteString) → IsPlain file → IsTaken validate_grammar (file ∷ [])
 unfolding clap_on_literals
 validate-taken [] plain = refl
 validate-taken (b ∷ word) plain = simp (no_hyphen b word plain)
 
-validate-value : (file : Word) → IsPlain file → HasValue validate_grammar (file ∷ []) (codes "path") file
+validate-value : (file : ByteString) → IsPlain file → HasValue validate_grammar (file ∷ []) (codes "path") file
 unfolding clap_on_literals
 validate-value [] plain = refl
 validate-value (b ∷ word) plain = simp (no_hyphen b word plain)
 
-pub long : (file : Word) → IsPlain file → IsCommand (codes "--config" ∷ file ∷ []) (Run file false false)
+pub long : (file : ByteString) → IsPlain file → IsCommand (codes "--config" ∷ file ∷ []) (Run file false false)
 long file plain = run_of _ file false false refl (long-taken file plain) (long-value file plain) (long-endless file plain) (long-silent file plain)
 
-pub long_sign : (file : Word) → IsCommand ((codes "--config=" ++ file) ∷ []) (Run file false false)
+pub long_sign : (file : ByteString) → IsCommand ((codes "--config=" ++ file) ∷ []) (Run file false false)
 unfolding clap_on_literals
 long_sign file = run_of _ file false false refl refl refl refl refl
 
-pub short : (file : Word) → IsPlain file → IsCommand (codes "-c" ∷ file ∷ []) (Run file false false)
+pub short : (file : ByteString) → IsPlain file → IsCommand (codes "-c" ∷ file ∷ []) (Run file false false)
 short file plain = run_of _ file false false refl (short-taken file plain) (short-value file plain) (short-endless file plain) (short-silent file plain)
 
-pub short_sign : (file : Word) → IsCommand ((codes "-c=" ++ file) ∷ []) (Run file false false)
+pub short_sign : (file : ByteString) → IsCommand ((codes "-c=" ++ file) ∷ []) (Run file false false)
 unfolding clap_on_literals
 short_sign file = run_of _ file false false refl refl refl refl refl
 
-pub short_at_once : (b : ℕ) (rest : Word) → b ≢ 61 → IsCommand ((codes "-c" ++ b ∷ rest) ∷ []) (Run (b ∷ rest) false false)
+pub short_at_once : (b : ℕ) (rest : ByteString) → b ≢ 61 → IsCommand ((codes "-c" ++ b ∷ rest) ∷ []) (Run (b ∷ rest) false false)
 unfolding clap_on_literals
 short_at_once b rest other = run_of _ _ false false refl (simp (apart b 61 other)) (simp (apart b 61 other)) (simp (apart b 61 other)) (simp (apart b 61 other))
 
-pub stats : (file : Word) → IsCommand ((codes "--config=" ++ file) ∷ codes "--stats" ∷ []) (Run file false true)
+pub stats : (file : ByteString) → IsCommand ((codes "--config=" ++ file) ∷ codes "--stats" ∷ []) (Run file false true)
 unfolding clap_on_literals
 stats file = run_of _ file false true refl refl refl refl refl
 
-pub stats_first : (file : Word) → IsCommand (codes "--stats" ∷ (codes "--config=" ++ file) ∷ []) (Run file false true)
+pub stats_first : (file : ByteString) → IsCommand (codes "--stats" ∷ (codes "--config=" ++ file) ∷ []) (Run file false true)
 unfolding clap_on_literals
 stats_first file = run_of _ file false true refl refl refl refl refl
 
-pub once : (file : Word) → IsCommand ((codes "--config=" ++ file) ∷ codes "--once" ∷ []) (Run file true false)
+pub once : (file : ByteString) → IsCommand ((codes "--config=" ++ file) ∷ codes "--once" ∷ []) (Run file true false)
 unfolding clap_on_literals
 once file = run_of _ file true false refl refl refl refl refl
 
-pub once_first : (file : Word) → IsCommand (codes "--once" ∷ (codes "--config=" ++ file) ∷ []) (Run file true false)
+pub once_first : (file : ByteString) → IsCommand (codes "--once" ∷ (codes "--config=" ++ file) ∷ []) (Run file true false)
 unfolding clap_on_literals
 once_first file = run_of _ file true false refl refl refl refl refl
 
-pub once_and_stats : (file : Word) → IsCommand (codes "--stats" ∷ (codes "--config=" ++ file) ∷ codes "--once" ∷ []) (Run file true true)
+pub once_and_stats : (file : ByteString) → IsCommand (codes "--stats" ∷ (codes "--config=" ++ file) ∷ codes "--once" ∷ []) (Run file true true)
 unfolding clap_on_literals
 once_and_stats file = run_of _ file true true refl refl refl refl refl
 
-pub validate : (file : Word) → IsPlain file → IsCommand (codes "validate" ∷ file ∷ []) (Validate file)
+pub validate : (file : ByteString) → IsPlain file → IsCommand (codes "validate" ∷ file ∷ []) (Validate file)
 validate file plain = validate_of _ file (validate-taken file plain) (validate-value file plain)
 
-pub behind_dashes : (file : Word) → IsCommand (codes "validate" ∷ codes "--" ∷ file ∷ []) (Validate file)
+pub behind_dashes : (file : ByteString) → IsCommand (codes "validate" ∷ codes "--" ∷ file ∷ []) (Validate file)
 unfolding clap_on_literals
 behind_dashes file = validate_of _ file refl refl
 
@@ -144,23 +144,23 @@ abbrev pub is_faulty : Kinds → Bool
 is_faulty [] = false
 is_faulty (k ∷ ks) = true
 
-not_taken : (grammar : App) (words : List Word) → is_faulty (fault_of grammar words) ≡ true → IsTaken grammar words → ⊥
+not_taken : (grammar : App) (words : List ByteString) → is_faulty (fault_of grammar words) ≡ true → IsTaken grammar words → ⊥
 not_taken grammar words faulty taken =
     let P : Kinds → Type 0 = λ ks. is_faulty ks ≡ true in
     let bad : false ≡ true = subst P taken faulty in cc
 
-pub no_run : (words : List Word) → (first_byte words == 118) ≡ false → is_faulty (fault_of run_grammar words) ≡ true → IsNoCommand words
+pub no_run : (words : List ByteString) → (first_byte words == 118) ≡ false → is_faulty (fault_of run_grammar words) ≡ true → IsNoCommand words
 no_run words other faulty = record {
   run = λ _. not_taken run_grammar words faulty;
   validate = λ rest named _. unnamed words other rest named;
 }
 
-pub no_validate : (rest : List Word) → is_faulty (fault_of validate_grammar rest) ≡ true → IsNoCommand (codes "validate" ∷ rest)
+pub no_validate : (rest : List ByteString) → is_faulty (fault_of validate_grammar rest) ≡ true → IsNoCommand (codes "validate" ∷ rest)
 no_validate rest faulty = record {
   run = λ unnamed _. unnamed rest refl;
   validate = λ others named taken.
       let same : others ≡ rest = cc (named) in
-      not_taken validate_grammar rest faulty (subst (λ (words : List Word). IsTaken validate_grammar words) same taken);
+      not_taken validate_grammar rest faulty (subst (λ (words : List ByteString). IsTaken validate_grammar words) same taken);
 }
 
 pub none : IsNoCommand []
@@ -179,11 +179,11 @@ pub option_as_file : IsNoCommand (codes "--config" ∷ codes "--config" ∷ [])
 unfolding clap_on_literals
 option_as_file = no_run _ refl refl
 
-pub twice : (file other : Word) → IsNoCommand ((codes "--config=" ++ file) ∷ (codes "--config=" ++ other) ∷ [])
+pub twice : (file other : ByteString) → IsNoCommand ((codes "--config=" ++ file) ∷ (codes "--config=" ++ other) ∷ [])
 unfolding clap_on_literals
 twice file other = no_run _ refl refl
 
-pub twice_short : (file other : Word) → IsNoCommand ((codes "--config=" ++ file) ∷ (codes "-c=" ++ other) ∷ [])
+pub twice_short : (file other : ByteString) → IsNoCommand ((codes "--config=" ++ file) ∷ (codes "-c=" ++ other) ∷ [])
 unfolding clap_on_literals
 twice_short file other = no_run _ refl refl
 
@@ -191,11 +191,11 @@ pub stats_alone : IsNoCommand (codes "--stats" ∷ [])
 unfolding clap_on_literals
 stats_alone = no_run _ refl refl
 
-pub stats_twice : (file : Word) → IsNoCommand (codes "--stats" ∷ codes "--stats" ∷ (codes "--config=" ++ file) ∷ [])
+pub stats_twice : (file : ByteString) → IsNoCommand (codes "--stats" ∷ codes "--stats" ∷ (codes "--config=" ++ file) ∷ [])
 unfolding clap_on_literals
 stats_twice file = no_run _ refl refl
 
-pub stats_value : (file value : Word) → IsNoCommand ((codes "--stats=" ++ value) ∷ (codes "--config=" ++ file) ∷ [])
+pub stats_value : (file value : ByteString) → IsNoCommand ((codes "--stats=" ++ value) ∷ (codes "--config=" ++ file) ∷ [])
 unfolding clap_on_literals
 stats_value file value = no_run _ refl refl
 
@@ -203,37 +203,37 @@ pub once_alone : IsNoCommand (codes "--once" ∷ [])
 unfolding clap_on_literals
 once_alone = no_run _ refl refl
 
-pub once_twice : (file : Word) → IsNoCommand (codes "--once" ∷ codes "--once" ∷ (codes "--config=" ++ file) ∷ [])
+pub once_twice : (file : ByteString) → IsNoCommand (codes "--once" ∷ codes "--once" ∷ (codes "--config=" ++ file) ∷ [])
 unfolding clap_on_literals
 once_twice file = no_run _ refl refl
 
-pub once_value : (file value : Word) → IsNoCommand ((codes "--once=" ++ value) ∷ (codes "--config=" ++ file) ∷ [])
+pub once_value : (file value : ByteString) → IsNoCommand ((codes "--once=" ++ value) ∷ (codes "--config=" ++ file) ∷ [])
 unfolding clap_on_literals
 once_value file value = no_run _ refl refl
 
-more-faulty : (file word : Word) → IsPlain word → is_faulty (fault_of run_grammar ((codes "--config=" ++ file) ∷ word ∷ [])) ≡ true
+more-faulty : (file word : ByteString) → IsPlain word → is_faulty (fault_of run_grammar ((codes "--config=" ++ file) ∷ word ∷ [])) ≡ true
 unfolding clap_on_literals
 more-faulty file [] plain = refl
 more-faulty file (b ∷ word) plain = simp (no_hyphen b word plain)
 
-pub more : (file word : Word) → IsPlain word → IsNoCommand ((codes "--config=" ++ file) ∷ word ∷ [])
+pub more : (file word : ByteString) → IsPlain word → IsNoCommand ((codes "--config=" ++ file) ∷ word ∷ [])
 more file word plain = no_run _ refl (more-faulty file word plain)
 
 pub validate_alone : IsNoCommand (codes "validate" ∷ [])
 unfolding clap_on_literals
 validate_alone = no_validate [] refl
 
-two-faulty : (file word : Word) → IsPlain file → IsPlain word → is_faulty (fault_of validate_grammar (file ∷ word ∷ [])) ≡ true
+two-faulty : (file word : ByteString) → IsPlain file → IsPlain word → is_faulty (fault_of validate_grammar (file ∷ word ∷ [])) ≡ true
 unfolding clap_on_literals
 two-faulty [] [] p q = refl
 two-faulty [] (b ∷ word) p q = simp (no_hyphen b word q)
 two-faulty (a ∷ file) [] p q = simp (no_hyphen a file p)
 two-faulty (a ∷ file) (b ∷ word) p q = simp (no_hyphen a file p, no_hyphen b word q)
 
-pub validate_two : (file word : Word) → IsPlain file → IsPlain word → IsNoCommand (codes "validate" ∷ file ∷ word ∷ [])
+pub validate_two : (file word : ByteString) → IsPlain file → IsPlain word → IsNoCommand (codes "validate" ∷ file ∷ word ∷ [])
 validate_two file word p q = no_validate _ (two-faulty file word p q)
 
-pub validate_option : (file : Word) → IsNoCommand (codes "validate" ∷ (codes "--config=" ++ file) ∷ [])
+pub validate_option : (file : ByteString) → IsNoCommand (codes "validate" ∷ (codes "--config=" ++ file) ∷ [])
 unfolding clap_on_literals
 validate_option file = no_validate _ refl
 

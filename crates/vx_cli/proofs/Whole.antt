@@ -5,7 +5,7 @@ use Rattle.std.specs.List.{flat_map}
 use Rattle.std.specs.Str.{IsUtf8, NoCharPasses, NonePass, chars, encode_utf8_all}
 use Rattle.std.proofs.lemmas.Bool.{cases_lt, cond-false}
 use Rattle.std.proofs.lemmas.Str.{chars_from_encodes}
-use Rattle.vx_value.specs.Texts.{Word}
+use Rattle.vx_value.specs.Texts.{ByteString}
 use Rattle.vx_cli.specs.Shown.{IsCutAt, is_hidden, shown, shown_char, shown_within, spelled}
 use Rattle.vx_cli.proofs.Fitting.{fitting, cut}
 
@@ -16,7 +16,7 @@ within_whole room (c ∷ cs) h =
     fitting room c cs (omega arith) ∙ ap (λ rest. shown_char c ++ rest) (within_whole (room - length (shown_char c)) cs (omega arith))
 
 -- what has room is whole
-pub whole : (text : Word) → length (spelled text) ≤ 256 → shown text ≡ spelled text
+pub whole : (text : ByteString) → length (spelled text) ≤ 256 → shown text ≡ spelled text
 unfolding shown
 whole text h = within_whole 256 (chars text) h
 
@@ -46,7 +46,7 @@ within_cut room (c ∷ cs) h =
     (cases_lt room (length (shown_char c)))
 
 -- what hasn't is cut
-pub is_cut : (text : Word) → 256 < length (spelled text) → IsCutAt 256 (chars text) (shown text)
+pub is_cut : (text : ByteString) → 256 < length (spelled text) → IsCutAt 256 (chars text) (shown text)
 unfolding shown
 is_cut text h = within_cut 256 (chars text) h
 
@@ -58,7 +58,7 @@ itself (c ∷ cs) h =
     ap (λ front. front ++ flat_map shown_char cs) (cond-false (is_hidden c) _ (encode_utf8 c) h.0) ∙ ap (λ rest. encode_utf8 c ++ rest) (itself cs h.1)
 
 -- a short text without a hidden character stands as it is
-pub same : (text : Word) → IsUtf8 text → NoCharPasses is_hidden text → length text ≤ 256 → shown text ≡ text
+pub same : (text : ByteString) → IsUtf8 text → NoCharPasses is_hidden text → length text ≤ 256 → shown text ≡ text
 same text utf8 plain short =
     let characters : chars text ≡ plain.0 = sym (chars_from_encodes plain.0 text utf8 plain.1) in
     let alike : spelled text ≡ text = ap (flat_map shown_char) characters ∙ itself plain.0 plain.2 ∙ plain.1 in

@@ -7,7 +7,7 @@ use Rattle.clap.specs.declared.builder.arg.Arg.{Arg}
 use Rattle.clap.specs.declared.builder.command.Command.{Command}
 use Rattle.clap.specs.declared.builder.command.Command.TheViews.{out-Command as fields_of}
 use Rattle.clap.specs.declared.parser.matches.ArgMatches.{ArgMatches}
-use Rattle.vx_value.specs.Texts.{Word}
+use Rattle.vx_value.specs.Texts.{ByteString}
 
 -- a command that has no arguments yet
 pub record IsBare (command : Command) : Type 0 where
@@ -17,7 +17,7 @@ pub record IsBare (command : Command) : Type 0 where
   pub strict : (fields_of command).subcommand_negates_reqs ≡ false
 
 -- an argument of that name, which excludes nothing
-pub record IsNamed (name : Word) (arg : Arg) : Type 0 where
+pub record IsNamed (name : ByteString) (arg : Arg) : Type 0 where
   pub id : arg.id.now ≡ name
   pub plain : IsPlainArg arg
   pub local : arg.global ≡ false
@@ -30,6 +30,6 @@ pub record IsRequired (arg : Arg) : Type 0 where
   pub least : 1 ≤ least_values arg
 
 -- what a command reads always has a value of that name
-abbrev pub GivesValue : Command → Word → Type 0
+abbrev pub GivesValue : Command → ByteString → Type 0
 GivesValue command name = (matches : ArgMatches) → IsParsedFrom command matches
     → is_some (first_value (found_of matches) name) ≡ true

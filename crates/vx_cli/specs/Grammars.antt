@@ -3,10 +3,10 @@ use Rattle.std.specs.Prelude.{true, Some, List, [], ◌∷◌, codes}
 use Rattle.clap.specs.Walk.{Rule}
 use Rattle.clap.specs.Simple.{App, new_rule, new_shape}
 use Rattle.clap.specs.declared.builder.action.ArgAction.TheVariants.{Set, SetTrue}
-use Rattle.vx_value.specs.Texts.{Word}
+use Rattle.vx_value.specs.Texts.{ByteString}
 
 -- a command with these arguments, without the words for help and version; its own name isn't among its words
-abbrev pub grammar_of : Word → List Rule → App
+abbrev pub grammar_of : ByteString → List Rule → App
 grammar_of name rules = record {
   top = record (new_shape name) {
     rules = rules;
@@ -18,7 +18,7 @@ grammar_of name rules = record {
 }
 
 -- an argument with one value, which has to be given
-abbrev pub required_value : Word → Rule
+abbrev pub required_value : ByteString → Rule
 required_value name = record (new_rule name) { required = true; action = Some Set }
 
 -- `-c FILE`, `--config FILE`
@@ -26,7 +26,7 @@ abbrev pub config_option : Rule
 config_option = record (required_value (codes "config")) { short = Some 99; long = Some (codes "config") }
 
 -- a flag, by its long name
-abbrev pub flag : Word → Rule
+abbrev pub flag : ByteString → Rule
 flag name = record (new_rule name) { long = Some name; action = Some SetTrue }
 
 -- `--once` and `--stats`

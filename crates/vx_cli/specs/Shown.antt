@@ -5,7 +5,7 @@ use Rattle.std.specs.Fmt.{digits}
 use Rattle.std.specs.Int.{is_in_range}
 use Rattle.std.specs.List.{flat_map}
 use Rattle.std.specs.Str.{chars}
-use Rattle.vx_value.specs.Texts.{Word}
+use Rattle.vx_value.specs.Texts.{ByteString}
 
 -- whether a character ends a line or a paragraph, beside the controls: U+2028 and U+2029
 abbrev pub is_separator : ℕ → Bool
@@ -21,25 +21,25 @@ abbrev pub is_hidden : ℕ → Bool
 is_hidden c = (is_control c || is_separator c) || is_direction c
 
 -- a character as it is printed: one that is hidden by its code in hexadecimal, as `\u{1b}`, and each other as itself
-unfoldable pub shown_char : ℕ → Word
+unfoldable pub shown_char : ℕ → ByteString
 shown_char c = if is_hidden c then codes "\\u{" ++ (digits 16 false c ++ codes "}") else encode_utf8 c
 
 -- characters as they are printed where there is room for so many bytes: up to the last one that fits, and then `..` for more
-abbrev pub shown_within : ℕ → List ℕ → Word
+abbrev pub shown_within : ℕ → List ℕ → ByteString
 shown_within room [] = []
 shown_within room (c ∷ cs) =
     if nat_le (length (shown_char c)) room then shown_char c ++ shown_within (room - length (shown_char c)) cs else codes ".."
 
 -- a text as it is printed, in 256 bytes and perhaps `..`
-unfoldable pub shown : Word → Word
+unfoldable pub shown : ByteString → ByteString
 shown text = shown_within 256 (chars text)
 
 -- a text whose hidden characters stand by their codes, however long it is
-abbrev pub spelled : Word → Word
+abbrev pub spelled : ByteString → ByteString
 spelled text = flat_map shown_char (chars text)
 
 -- characters are printed up to the last one that ends within so many bytes, and then `..`
-pub record IsCutAt (room : ℕ) (characters : List ℕ) (printed : Word) : Type 0 where
+pub record IsCutAt (room : ℕ) (characters : List ℕ) (printed : ByteString) : Type 0 where
   pub front : List ℕ
   pub next : ℕ
   pub rest : List ℕ

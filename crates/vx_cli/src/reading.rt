@@ -2,7 +2,7 @@ ghost use Rattle.std.specs.Prelude.{◌≡◌, ◌∷◌, IfOk, IfErr, IfSome, I
 ghost use Rattle.clap.specs.Words.{IsParsedFrom, app_of, found_of, first_of, first_value, is_simple_and_free, matches_of, rows_of};
 ghost use Rattle.clap.specs.Walk.{texts};
 ghost use Rattle.vx_cli.specs.Commands.{IsCommand, IsTaken, NamesValidate, is_set};
-ghost use Rattle.vx_cli.specs.Faults.{Tells};
+ghost use Rattle.vx_cli.specs.Faults.{Reports};
 
 use crate::cli_fault::CliFault;
 use crate::command::Command;
@@ -21,7 +21,7 @@ use vx_value::{Text, TextList};
 /// `Usage` comes exactly where the words are in no command's grammar. Want of memory comes at any words.
 pub fn read_words(alloc: Global, words: &TextList) -> Result<Command, CliFault>
     ensures command { IfOk result (IsCommand words.now) }
-    ensures fault { IfErr result (Tells words.now) }
+    ensures fault { IfErr result (Reports words.now) }
 {
     let words = borrowed(alloc, words.as_slice())?;
     match behind_validate(words.as_slice()) {
@@ -58,7 +58,7 @@ fn behind_validate<'a>(words: &'a [&'a str]) -> Option<&'a [&'a str]>
 fn read_run<'a>(alloc: Global, words: &'a [&'a str]) -> Result<Command, CliFault>
     requires { (rest : _) → NamesValidate (texts words.now) rest → ⊥ }
     ensures command { IfOk result (IsCommand (texts words.entry.now)) }
-    ensures fault { IfErr result (Tells (texts words.entry.now)) }
+    ensures fault { IfErr result (Reports (texts words.entry.now)) }
 {
     let matches = matches_of(run_grammar(alloc)?, words)?;
     let config = value_of(alloc, &matches, "config")?;
@@ -74,7 +74,7 @@ fn read_run<'a>(alloc: Global, words: &'a [&'a str]) -> Result<Command, CliFault
 /// The command that judges a configuration, by its words.
 fn read_validate<'a>(alloc: Global, words: &'a [&'a str]) -> Result<Command, CliFault>
     ensures command { IfOk result (IsCommand (codes "validate" ∷ texts words.entry.now)) }
-    ensures fault { IfErr result (Tells (codes "validate" ∷ texts words.entry.now)) }
+    ensures fault { IfErr result (Reports (codes "validate" ∷ texts words.entry.now)) }
 {
     let matches = matches_of(validate_grammar(alloc)?, words)?;
     let path = value_of(alloc, &matches, "path")?;

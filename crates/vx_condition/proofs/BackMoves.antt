@@ -1,6 +1,6 @@
 -- What a byte takes away from what a text has to go on with: at each place of a reader.
 use Rattle.std.proofs.Common.{◌≡◌, ℕ, suc, max, ◌+◌, ◌-◌, ◌<◌, ◌≤◌, Bool, cond, ◌==◌, Some, None, List, [], ◌∷◌, ◌++◌, codes, refl, sym, ◌∙◌, ap, subst, append_assoc, arith, nat_lt, ltb-true, add-one, inl, inr}
-use Rattle.vx_value.specs.Texts.{Word}
+use Rattle.vx_value.specs.Texts.{ByteString}
 use Rattle.vx_condition.specs.Trees as tree
 use Rattle.vx_condition.specs.Trees.{Disjunction}
 use Rattle.vx_condition.specs.Grammar.{Then, Is, IsPathText, IsString, IsWhole, IsPatternText, IsLiteralText, IsPredicateText, Arguments, sign_of}
@@ -32,15 +32,15 @@ use Rattle.vx_condition.proofs.Backs.{good, wrong, split, pick, land, bad, as_by
 use Rattle.vx_condition.proofs.BackTrees.{conjunction_with, disjunction_with}
 
 -- ---- a predicate
-record HasPredicate (keeps : Bool) (found : Predicate) (text : Word) : Type 0 where
+record HasPredicate (keeps : Bool) (found : Predicate) (text : ByteString) : Type 0 where
   predicate : Predicate
   same : found ≡ kept keeps predicate
   spelled : IsPredicateText predicate text
 
-with_more : (First More Other : Word → Type 0) (text : Word) (t : Then First More text) → Other t.back → Then First Other text
+with_more : (First More Other : ByteString → Type 0) (text : ByteString) (t : Then First More text) → Other t.back → Then First Other text
 with_more First More Other text t other = record { front = t.front; blanks = t.blanks; back = t.back; first = t.first; blank = t.blank; more = other; whole = t.whole }
 
-by_sign : (keeps : Bool) (p : List Word) (found : Predicate) (text : Word) (t : Then (IsPathText p) (Operated p found) text) (o : Operator) → Then (Is (sign_for o)) (LiteralRest p o found) t.back → HasPredicate keeps found text
+by_sign : (keeps : Bool) (p : List ByteString) (found : Predicate) (text : ByteString) (t : Then (IsPathText p) (Operated p found) text) (o : Operator) → Then (Is (sign_for o)) (LiteralRest p o found) t.back → HasPredicate keeps found text
 by_sign keeps p found text t (operator.Is equality.Equal) u =
     let l : Equated p equality.Equal found u.back = u.more in
     record { predicate = Equal p l.value; same = l.same; spelled = with_more (IsPathText p) (Operated p found) (Then (Is (codes "==")) (IsLiteralText l.value)) text t (with_more (Is (codes "==")) (Equated p equality.Equal found) (IsLiteralText l.value) t.back u l.written) }
@@ -51,10 +51,10 @@ by_sign keeps p found text t (operator.Compared c) u =
     let l : Measured p c found u.back = u.more in
     record { predicate = Compared p c l.number; same = l.same; spelled = with_more (IsPathText p) (Operated p found) (Then (Is (sign_of c)) (IsWhole l.number)) text t (with_more (Is (sign_of c)) (Measured p c found) (IsWhole l.number) t.back u l.written) }
 
-path_predicate : (keeps : Bool) (found : Predicate) (text : Word) → Pathed keeps path_of.Compared found text → HasPredicate keeps found text
+path_predicate : (keeps : Bool) (found : Predicate) (text : ByteString) → Pathed keeps path_of.Compared found text → HasPredicate keeps found text
 path_predicate keeps found text p = let o = p.rest.more in by_sign keeps p.path found text p.rest o.sign o.rest
 
-exists_predicate : (keeps : Bool) (found : Predicate) (t : Word) → Blanks (Open keeps call.Exists found) t → HasPredicate keeps found (codes "exists" ++ t)
+exists_predicate : (keeps : Bool) (found : Predicate) (t : ByteString) → Blanks (Open keeps call.Exists found) t → HasPredicate keeps found (codes "exists" ++ t)
 exists_predicate keeps found t bl =
     let b : Then (Is (codes "(")) (Pathed keeps (path_of.Called call.Exists) found) bl.back = bl.more in
     let p = b.more in
@@ -73,13 +73,13 @@ exists_predicate keeps found t bl =
           });
     }
 
-record PartArguments (found : Predicate) (text : Word) : Type 0 where
-  path : List Word
-  word : Word
+record PartArguments (found : Predicate) (text : ByteString) : Type 0 where
+  path : List ByteString
+  word : ByteString
   same : found ≡ Contains path word
   spelled : Arguments (IsPathText path) (IsString word) text
 
-part_arguments : (keeps : Bool) (found : Predicate) (text : Word) → Bracket keeps (call.Has search_for.Part) found text → PartArguments found text
+part_arguments : (keeps : Bool) (found : Predicate) (text : ByteString) → Bracket keeps (call.Has search_for.Part) found text → PartArguments found text
 part_arguments keeps found text b =
     let p = b.more in
     let c : Then (Is (codes ",")) (Part p.path found) p.rest.back = p.rest.more in
@@ -95,13 +95,13 @@ part_arguments keeps found text b =
           (with_more (IsString a.word) (Close (Contains p.path a.word) found) (Is (codes ")")) c.back a.rest close.written)));
     }
 
-record SoughtArguments (keeps : Bool) (found : Predicate) (text : Word) : Type 0 where
-  path : List Word
-  word : Word
+record SoughtArguments (keeps : Bool) (found : Predicate) (text : ByteString) : Type 0 where
+  path : List ByteString
+  word : ByteString
   same : found ≡ sought keeps path word
   spelled : Arguments (IsPathText path) (IsPatternText word) text
 
-sought_arguments : (keeps : Bool) (found : Predicate) (text : Word) → Bracket keeps (call.Has search_for.Pattern) found text → SoughtArguments keeps found text
+sought_arguments : (keeps : Bool) (found : Predicate) (text : ByteString) → Bracket keeps (call.Has search_for.Pattern) found text → SoughtArguments keeps found text
 sought_arguments keeps found text b =
     let p = b.more in
     let c : Then (Is (codes ",")) (Sought keeps p.path found) p.rest.back = p.rest.more in
@@ -118,10 +118,10 @@ sought_arguments keeps found text b =
     }
 
 -- more of a text behind blanks
-blanks_with : (More Other : Word → Type 0) (text : Word) (bl : Blanks More text) → Other bl.back → Blanks Other text
+blanks_with : (More Other : ByteString → Type 0) (text : ByteString) (bl : Blanks More text) → Other bl.back → Blanks Other text
 blanks_with More Other text bl other = record { blanks = bl.blanks; back = bl.back; blank = bl.blank; more = other; whole = bl.whole }
 
-part_predicate : (keeps : Bool) (found : Predicate) (t : Word) (bl : Blanks (Open keeps (call.Has search_for.Part) found) t) → Open keeps (call.Has search_for.Part) found bl.back → HasPredicate keeps found (codes "contains" ++ t)
+part_predicate : (keeps : Bool) (found : Predicate) (t : ByteString) (bl : Blanks (Open keeps (call.Has search_for.Part) found) t) → Open keeps (call.Has search_for.Part) found bl.back → HasPredicate keeps found (codes "contains" ++ t)
 part_predicate keeps found t bl (inl b) =
     let a = part_arguments keeps found bl.back b in
     record {
@@ -139,7 +139,7 @@ part_predicate keeps found t bl (inr m) =
           (with_more (Is (codes "!")) (Bracket keeps (call.Has search_for.Part) found) (Arguments (IsPathText a.path) (IsString a.word)) bl.back m a.spelled)));
     }
 
-sought_predicate : (keeps : Bool) (found : Predicate) (t : Word) (bl : Blanks (Open keeps (call.Has search_for.Pattern) found) t) → Open keeps (call.Has search_for.Pattern) found bl.back → HasPredicate keeps found (codes "match" ++ t)
+sought_predicate : (keeps : Bool) (found : Predicate) (t : ByteString) (bl : Blanks (Open keeps (call.Has search_for.Pattern) found) t) → Open keeps (call.Has search_for.Pattern) found bl.back → HasPredicate keeps found (codes "match" ++ t)
 sought_predicate keeps found t bl (inl b) =
     let a = sought_arguments keeps found bl.back b in
     record {
@@ -158,7 +158,7 @@ sought_predicate keeps found t bl (inr m) =
     }
 
 -- a predicate is a term
-stated_term : (most : ℕ) (keeps : Bool) (f : Frame) (outer : List Frame) (all : Disjunction) (text : Word) → Finishes most keeps f outer (HasPredicate keeps) all text → Before most keeps f outer all text
+stated_term : (most : ℕ) (keeps : Bool) (f : Frame) (outer : List Frame) (all : Disjunction) (text : ByteString) → Finishes most keeps f outer (HasPredicate keeps) all text → Before most keeps f outer all text
 stated_term most keeps f outer all text fin =
     record {
       first = tree.stated fin.rest.predicate;
@@ -181,7 +181,7 @@ marked_with f t = ap (λ u. record f { terms = f.terms ++ u ∷ []; negations = 
 low_marked : (most base n l : ℕ) → base + n < most → l ≤ most - (base + (n + 1)) → suc l ≤ most - (base + n)
 low_marked most base n l h g = omega arith
 
-back_marked : (most : ℕ) (keeps : Bool) (f : Frame) (outer : List Frame) (all : Disjunction) (text : Word) → levels_in f < most → Blanks (Before most keeps (marked f) outer all) text → Before most keeps f outer all (33 ∷ text)
+back_marked : (most : ℕ) (keeps : Bool) (f : Frame) (outer : List Frame) (all : Disjunction) (text : ByteString) → levels_in f < most → Blanks (Before most keeps (marked f) outer all) text → Before most keeps f outer all (33 ∷ text)
 back_marked most keeps f outer all text room bl =
     let before = bl.more in
     record {
@@ -201,10 +201,10 @@ opened_all keeps base t ts cs = λ i. branch (term (kept_term keeps t) (conjunct
 low_opened : (most here l m n : ℕ) → here < most → l ≤ most - (here + 1 + 0) → m ≤ most - (here + 1) → n ≤ most - (here + 1) → suc (max (max l m) n) ≤ most - here
 low_opened most here l m n room a b c = omega arith
 
-opened_text : (bl front x y blanks back : Word) → bl ++ (front ++ ((x ++ y) ++ (blanks ++ 41 ∷ back))) ≡ (bl ++ (((front ++ x) ++ y) ++ (blanks ++ 41 ∷ []))) ++ back
+opened_text : (bl front x y blanks back : ByteString) → bl ++ (front ++ ((x ++ y) ++ (blanks ++ 41 ∷ back))) ≡ (bl ++ (((front ++ x) ++ y) ++ (blanks ++ 41 ∷ []))) ++ back
 opened_text bl front x y blanks back = simp append_assoc
 
-back_opened : (most : ℕ) (keeps : Bool) (f : Frame) (outer : List Frame) (all : Disjunction) (text : Word) → levels_in f < most
+back_opened : (most : ℕ) (keeps : Bool) (f : Frame) (outer : List Frame) (all : Disjunction) (text : ByteString) → levels_in f < most
     → Blanks (Before most keeps (fresh (levels_in f + 1)) (f ∷ outer) all) text → Before most keeps f outer all (40 ∷ text)
 back_opened most keeps f outer all text room bl =
     let before = bl.more in
@@ -239,7 +239,7 @@ back_opened most keeps f outer all text room bl =
     }
 
 -- ---- where a term is expected
-pub back_operand : (most : ℕ) (r next : Reader) (b : ℕ) (all : Disjunction) (text : Word) → operand most r b ≡ good next → Rest most next all text → Before most r.keeps r.frame r.outer all (b ∷ text)
+pub back_operand : (most : ℕ) (r next : Reader) (b : ℕ) (all : Disjunction) (text : ByteString) → operand most r b ≡ good next → Rest most next all text → Before most r.keeps r.frame r.outer all (b ∷ text)
 back_operand most r next b all text h rest =
     split (b == 33) (cond (nat_lt (levels_in r.frame) most) (good (record r { frame = marked r.frame; mode = mode.Expects wants.Operand })) (wrong stop.Deep))
     (cond (b == 40) (cond (nat_lt (levels_in r.frame) most) (good (record r { frame = fresh (levels_in r.frame + 1); outer = r.frame ∷ r.outer; mode = mode.Expects wants.Operand })) (wrong stop.Deep)) (at_some r (operand_mode b))) (good next) h

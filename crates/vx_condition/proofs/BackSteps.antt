@@ -1,7 +1,7 @@
 -- Each byte that a reader takes is one that the text has to go on with.
 use Rattle.std.proofs.Common.{◌≡◌, ℕ, suc, ◌+◌, ◌-◌, ◌*◌, ◌^◌, ◌≤◌, Bool, true, false, cond, not, ◌==◌, ◌&&◌, List, [], ◌∷◌, ◌++◌, length, refl, ◌∙◌, arith, nat_le, leb-true, le-leb, inl, inr}
 use Rattle.std.proofs.lemmas.Bool.{and_parts, and_from, eqb-false}
-use Rattle.vx_value.specs.Texts.{Word}
+use Rattle.vx_value.specs.Texts.{ByteString}
 use Rattle.vx_condition.specs.Trees.{Disjunction}
 use Rattle.vx_condition.specs.Grammar.{is_blank, is_digit, number_behind}
 use Rattle.vx_condition.specs.PathSteps.{path_step}
@@ -30,23 +30,23 @@ use Rattle.vx_condition.proofs.Fits.{FitExpected, FitAt, Fit}
 use Rattle.vx_condition.proofs.BackMoves.{back_operand}
 
 -- ---- where something is expected
-abbrev Expecting : ℕ → Reader → Expected → Disjunction → Word → Type 0
+abbrev Expecting : ℕ → Reader → Expected → Disjunction → ByteString → Type 0
 Expecting most r wants.Operand all text = Before most r.keeps r.frame r.outer all text
 Expecting most r wants.Joint all text = Joins most r.keeps r.frame r.outer all text
 Expecting most r e all text = Rest_of most r (ExpectedRest r.keeps e) all text
 
-unblanked : (most : ℕ) (r : Reader) (e : Expected) (all : Disjunction) (text : Word) → Expecting most r e all text → RestExpected most r.keeps r.frame r.outer e all text
+unblanked : (most : ℕ) (r : Reader) (e : Expected) (all : Disjunction) (text : ByteString) → Expecting most r e all text → RestExpected most r.keeps r.frame r.outer e all text
 unblanked most r wants.Operand all text x = no_blanks (Before most r.keeps r.frame r.outer all) text x
 unblanked most r wants.Joint all text x = x
 unblanked most r e all text x = same_text most r.keeps r.frame r.outer (ExpectedRest r.keeps e) (λ found. Blanks (ExpectedRest r.keeps e found)) all text (λ found t y. no_blanks (ExpectedRest r.keeps e found) t y) x
 
-blanked : (most : ℕ) (r : Reader) (e : Expected) (b : ℕ) (all : Disjunction) (text : Word) → is_blank b ≡ true → RestExpected most r.keeps r.frame r.outer e all text → RestExpected most r.keeps r.frame r.outer e all (b ∷ text)
+blanked : (most : ℕ) (r : Reader) (e : Expected) (b : ℕ) (all : Disjunction) (text : ByteString) → is_blank b ≡ true → RestExpected most r.keeps r.frame r.outer e all text → RestExpected most r.keeps r.frame r.outer e all (b ∷ text)
 blanked most r wants.Operand b all text is x = before_blanks (Before most r.keeps r.frame r.outer all) b text is x
 blanked most r wants.Joint b all text is x = blank_joins most r.keeps r.frame r.outer b all text is x
 blanked most r e b all text is x =
     via most r.keeps r.frame r.outer (λ found. Blanks (ExpectedRest r.keeps e found)) (λ found. Blanks (ExpectedRest r.keeps e found)) all b text (λ found t y. before_blanks (ExpectedRest r.keeps e found) b t is y) x
 
-back_expected : (most : ℕ) (r next : Reader) (e : Expected) (b : ℕ) (all : Disjunction) (text : Word) → FitExpected r.frame e → expected most r e b ≡ good next → Rest most next all text → Expecting most r e all (b ∷ text)
+back_expected : (most : ℕ) (r next : Reader) (e : Expected) (b : ℕ) (all : Disjunction) (text : ByteString) → FitExpected r.frame e → expected most r e b ≡ good next → Rest most next all text → Expecting most r e all (b ∷ text)
 back_expected most r next wants.Operand b all text fit h rest = back_operand most r next b all text h rest
 back_expected most r next (wants.Operator p) b all text fit h rest = back_operator most r next p b all text h rest
 back_expected most r next (wants.Literal p o) b all text fit h rest = back_literal most r next p o b all text h rest
@@ -58,14 +58,14 @@ back_expected most r next (wants.Argument s p) b all text fit h rest = back_argu
 back_expected most r next (wants.Close q) b all text fit h rest = back_close most r next q b all text h rest
 back_expected most r next wants.Joint b all text fit h rest = back_joint most r next b all text fit h rest
 
-back_blanks : (most : ℕ) (r next : Reader) (e : Expected) (b : ℕ) (all : Disjunction) (text : Word) → FitExpected r.frame e → behind_blanks most r e b ≡ good next → Rest most next all text
+back_blanks : (most : ℕ) (r next : Reader) (e : Expected) (b : ℕ) (all : Disjunction) (text : ByteString) → FitExpected r.frame e → behind_blanks most r e b ≡ good next → Rest most next all text
     → RestExpected most r.keeps r.frame r.outer e all (b ∷ text)
 back_blanks most r next e b all text fit h rest =
     split (is_blank b) (good (at r (mode.Expects e))) (expected most r e b) (good next) h
     (λ is g. blanked most r e b all text is (land (at r (mode.Expects e)) next (λ x. Rest most x all text) g rest))
     (λ no_ g. unblanked most r e all (b ∷ text) (back_expected most r next e b all text fit g rest))
 
-fit_behind_path : (f : Frame) (use_of : PathUse) (p : List Word) → FitExpected f (behind_path use_of p)
+fit_behind_path : (f : Frame) (use_of : PathUse) (p : List ByteString) → FitExpected f (behind_path use_of p)
 fit_behind_path f path_of.Compared p = tt
 fit_behind_path f (path_of.Called call.Exists) p = tt
 fit_behind_path f (path_of.Called (call.Has s)) p = tt
@@ -75,12 +75,12 @@ not_false : (t : Bool) → not t ≡ true → t ≡ false
 not_false true h = absurd (cc)
 not_false false h = refl
 
-digit_more : (p : List Word) (o : Operator) (negative : Bool) (size b : ℕ) (found : Predicate) (t : Word) → is_digit b ≡ true → not (size == 0) ≡ true
+digit_more : (p : List ByteString) (o : Operator) (negative : Bool) (size b : ℕ) (found : Predicate) (t : ByteString) → is_digit b ≡ true → not (size == 0) ≡ true
     → InWhole p o negative (10 * size + (b - 48)) found t → InWhole p o negative size found (b ∷ t)
 digit_more p o negative size b found t d some iw =
     record { digits = digits_with b t d iw.digits; plain = λ e. absurd (eqb-false size 0 (not_false (size == 0) some) e); small = iw.small; same = iw.same }
 
-back_whole : (most : ℕ) (r next : Reader) (p : List Word) (o : Operator) (negative : Bool) (size b : ℕ) (all : Disjunction) (text : Word) → fits negative size ≡ true → in_whole r p o negative size b ≡ good next → Rest most next all text
+back_whole : (most : ℕ) (r next : Reader) (p : List ByteString) (o : Operator) (negative : Bool) (size b : ℕ) (all : Disjunction) (text : ByteString) → fits negative size ≡ true → in_whole r p o negative size b ≡ good next → Rest most next all text
     → Rest_of most r (InWhole p o negative size) all (b ∷ text)
 back_whole most r next p o negative size b all text fit h rest =
     split (is_digit b) (cond (not (size == 0) && fits negative (10 * size + (b - 48))) (good (at r (mode.Whole p o negative (10 * size + (b - 48))))) (wrong stop.Refused)) (behind_operand (stated r (with_number p o (signed negative size))) b) (good next) h
@@ -99,7 +99,7 @@ back_whole most r next p o negative size b all text fit h rest =
       whole = refl;
     })
 
-minus_more : (p : List Word) (o : Operator) (b : ℕ) (found : Predicate) (t : Word) → 49 ≤ b → b ≤ 57 → InWhole p o true (b - 48) found t → InMinus p o found (b ∷ t)
+minus_more : (p : List ByteString) (o : Operator) (b : ℕ) (found : Predicate) (t : ByteString) → 49 ≤ b → b ≤ 57 → InWhole p o true (b - 48) found t → InMinus p o found (b ∷ t)
 minus_more p o b found t low high iw =
     let some : b - 48 ≤ number_behind (b - 48) t = grows (b - 48) t in
     let size : number_behind (b - 48) t ≤ 2 ^ 63 = leb-true (number_behind (b - 48) t) (2 ^ 63) iw.small in
@@ -115,7 +115,7 @@ minus_more p o b found t low high iw =
       same = iw.same;
     }
 
-back_minus : (most : ℕ) (r next : Reader) (p : List Word) (o : Operator) (b : ℕ) (all : Disjunction) (text : Word) → moved most r (mode.Minus p o) b ≡ good next → Rest most next all text
+back_minus : (most : ℕ) (r next : Reader) (p : List ByteString) (o : Operator) (b : ℕ) (all : Disjunction) (text : ByteString) → moved most r (mode.Minus p o) b ≡ good next → Rest most next all text
     → Rest_of most r (InMinus p o) all (b ∷ text)
 back_minus most r next p o b all text h rest =
     split (nat_le 49 b && nat_le b 57) (good (at r (mode.Whole p o true (b - 48)))) (wrong stop.Refused) (good next) h
@@ -125,7 +125,7 @@ back_minus most r next p o b all text h rest =
     (land (at r (mode.Whole p o true (b - 48))) next (λ x. Rest most x all text) e rest))
     (λ no_ e. bad stop.Refused next e)
 
-back_angle : (most : ℕ) (r next : Reader) (p : List Word) (c : Comparison) (b : ℕ) (all : Disjunction) (text : Word) → moved most r (mode.Angle p c) b ≡ good next → Rest most next all text
+back_angle : (most : ℕ) (r next : Reader) (p : List ByteString) (c : Comparison) (b : ℕ) (all : Disjunction) (text : ByteString) → moved most r (mode.Angle p c) b ≡ good next → Rest most next all text
     → RestAt most r.keeps r.frame r.outer (mode.Angle p c) all (b ∷ text)
 back_angle most r next p c b all text h rest =
     split (b == 61) (good (at r (mode.Expects (wants.Literal p (operator.Compared (or_equal c)))))) (behind_blanks most r (wants.Literal p (operator.Compared c)) b) (good next) h
@@ -135,7 +135,7 @@ back_angle most r next p c b all text h rest =
     (λ no_ e. inr (back_blanks most r next (wants.Literal p (operator.Compared c)) b all text tt e rest))
 
 -- ---- at each place
-back_moved : (most : ℕ) (r next : Reader) (m : Mode) (b : ℕ) (all : Disjunction) (text : Word) → FitAt r.frame m → moved most r m b ≡ good next → Rest most next all text
+back_moved : (most : ℕ) (r next : Reader) (m : Mode) (b : ℕ) (all : Disjunction) (text : ByteString) → FitAt r.frame m → moved most r m b ≡ good next → Rest most next all text
     → RestAt most r.keeps r.frame r.outer m all (b ∷ text)
 back_moved most r next mode.Start b all text fit h rest =
     split (is_blank b) (wrong stop.Refused) (operand most r b) (good next) h (λ is e. bad stop.Refused next e) (λ no_ e. back_operand most r next b all text e rest)
@@ -155,5 +155,5 @@ back_moved most r next (mode.Whole p o negative size) b all text fit h rest = ba
 back_moved most r next (mode.Angle p c) b all text fit h rest = back_angle most r next p c b all text h rest
 
 -- what completes a reader behind a byte completes it before the byte
-pub back : (most : ℕ) (r next : Reader) (b : ℕ) (all : Disjunction) (text : Word) → Fit r → step most r b ≡ good next → Rest most next all text → Rest most r all (b ∷ text)
+pub back : (most : ℕ) (r next : Reader) (b : ℕ) (all : Disjunction) (text : ByteString) → Fit r → step most r b ≡ good next → Rest most next all text → Rest most r all (b ∷ text)
 back most r next b all text fit h rest = back_moved most r next r.mode b all text fit h rest

@@ -4,7 +4,7 @@ use Rattle.std.specs.Prelude.{option_map}
 use Rattle.std.specs.List.{list_any}
 use Rattle.std.proofs.lemmas.Bool.{and_parts}
 use Rattle.std.proofs.Math.Seq.{drop-length}
-use Rattle.vx_value.specs.Texts.{Word}
+use Rattle.vx_value.specs.Texts.{ByteString}
 use Rattle.vx_value.specs.Paths.{move_of, ends_path, carry, names_from}
 use Rattle.vx_condition.specs.Trees.{Disjunction}
 use Rattle.vx_condition.specs.Grammar.{escaped, before_rest, quoted}
@@ -35,7 +35,7 @@ use Rattle.vx_condition.proofs.Rests.{Blanks, Close, BehindPath, InWord, InPath,
 use Rattle.vx_condition.proofs.Backs.{good, wrong, split, land, bad, as_byte, via, same_text, Rest_of}
 
 -- ---- a fixed word
-arrived_rest : (most : ℕ) (r : Reader) (behind : Behind) (all : Disjunction) (text : Word) → Rest most (arrived r behind) all text → RestBehind most r.keeps r.frame r.outer behind all text
+arrived_rest : (most : ℕ) (r : Reader) (behind : Behind) (all : Disjunction) (text : ByteString) → Rest most (arrived r behind) all text → RestBehind most r.keeps r.frame r.outer behind all text
 arrived_rest most r (Wants e) all text rest = rest
 arrived_rest most r (Done q) all text rest = rest
 
@@ -46,7 +46,7 @@ letter w read b h =
     drop-cons (letters_of w) read 0 (ltb-true read (length (letters_of w)) both.0)
     ∙ ap (λ x. x ∷ drop (suc read) (letters_of w)) (sym same) ∙ ap (λ n. b ∷ drop n (letters_of w)) (sym (add-one read))
 
-in_word_at : (most : ℕ) (r next : Reader) (w : FixedWord) (read : ℕ) (behind : Behind) (b : ℕ) (all : Disjunction) (text : Word) (t : Bool) → (read + 1 == length (letters_of w)) ≡ t
+in_word_at : (most : ℕ) (r next : Reader) (w : FixedWord) (read : ℕ) (behind : Behind) (b : ℕ) (all : Disjunction) (text : ByteString) (t : Bool) → (read + 1 == length (letters_of w)) ≡ t
     → drop read (letters_of w) ≡ b ∷ drop (read + 1) (letters_of w)
     → good (cond t (arrived r behind) (at r (mode.Word w (read + 1) behind))) ≡ good next → Rest most next all text
     → InWord w read (RestBehind most r.keeps r.frame r.outer behind all) (b ∷ text)
@@ -57,7 +57,7 @@ in_word_at most r next w read behind b all text false more begins h rest =
     let iw : InWord w (read + 1) (RestBehind most r.keeps r.frame r.outer behind all) text = land (at r (mode.Word w (read + 1) behind)) next (λ x. Rest most x all text) h rest in
     record { back = iw.back; more = iw.more; whole = ap (λ u. b ∷ u) iw.whole ∙ ap (λ l. l ++ iw.back) (sym begins) }
 
-pub back_word : (most : ℕ) (r next : Reader) (w : FixedWord) (read : ℕ) (behind : Behind) (b : ℕ) (all : Disjunction) (text : Word) → in_word r w read behind b ≡ good next → Rest most next all text
+pub back_word : (most : ℕ) (r next : Reader) (w : FixedWord) (read : ℕ) (behind : Behind) (b : ℕ) (all : Disjunction) (text : ByteString) → in_word r w read behind b ≡ good next → Rest most next all text
     → InWord w read (RestBehind most r.keeps r.frame r.outer behind all) (b ∷ text)
 back_word most r next w read behind b all text h rest =
     split (nat_lt read (length (letters_of w)) && (b == get_or (letters_of w) read 0)) (good (cond (read + 1 == length (letters_of w)) (arrived r behind) (at r (mode.Word w (read + 1) behind)))) (wrong stop.Refused) (good next) h
@@ -65,7 +65,7 @@ back_word most r next w read behind b all text h rest =
     (λ no_ e. bad stop.Refused next e)
 
 -- ---- a path
-named_step : (p : PathPlace) (name : Word) (b : ℕ) (front : Word) (s : PathStep) → path_step p (length name == 0) b ≡ s
+named_step : (p : PathPlace) (name : ByteString) (b : ℕ) (front : ByteString) (s : PathStep) → path_step p (length name == 0) b ≡ s
     → names_from (mode_of p) name (b ∷ front) ≡ carry (move_for s) name b (λ m n. names_from m n front)
 named_step p name b front s e =
     ap (λ v. carry v name b (λ m n. names_from m n front)) (ap (λ t. move_of (mode_of p) t b) (no_bytes name) ∙ same_move p (length name == 0) b ∙ ap move_for e)
@@ -77,20 +77,20 @@ ends_there place.Quoted h = absurd (cc)
 ends_there place.Escaped h = absurd (cc)
 ends_there place.Closed h = refl
 
-only_name : (p : PathPlace) (name : Word) → may_end p ≡ true → names_from (mode_of p) name [] ≡ Some (name ∷ [])
+only_name : (p : PathPlace) (name : ByteString) → may_end p ≡ true → names_from (mode_of p) name [] ≡ Some (name ∷ [])
 only_name p name h = ap (λ t. cond t (Some (name ∷ [])) None) (ends_there p h)
 
-added_name : (keeps : Bool) (use_of : PathUse) (p q : PathPlace) (name : Word) (names : List Word) (b : ℕ) (found : Predicate) (t : Word) → path_step p (length name == 0) b ≡ step_of.Adds q
+added_name : (keeps : Bool) (use_of : PathUse) (p q : PathPlace) (name : ByteString) (names : List ByteString) (b : ℕ) (found : Predicate) (t : ByteString) → path_step p (length name == 0) b ≡ step_of.Adds q
     → InPath keeps use_of q (name ++ b ∷ []) names found t → InPath keeps use_of p name names found (b ∷ t)
 added_name keeps use_of p q name names b found t e ip =
     record { front = b ∷ ip.front; back = ip.back; others = ip.others; named = named_step p name b ip.front (step_of.Adds q) e ∙ ip.named; few = ip.few; more = ip.more; whole = ap (λ u. b ∷ u) ip.whole }
 
-passed_name : (keeps : Bool) (use_of : PathUse) (p q : PathPlace) (name : Word) (names : List Word) (b : ℕ) (found : Predicate) (t : Word) → path_step p (length name == 0) b ≡ step_of.Passes q
+passed_name : (keeps : Bool) (use_of : PathUse) (p q : PathPlace) (name : ByteString) (names : List ByteString) (b : ℕ) (found : Predicate) (t : ByteString) → path_step p (length name == 0) b ≡ step_of.Passes q
     → InPath keeps use_of q name names found t → InPath keeps use_of p name names found (b ∷ t)
 passed_name keeps use_of p q name names b found t e ip =
     record { front = b ∷ ip.front; back = ip.back; others = ip.others; named = named_step p name b ip.front (step_of.Passes q) e ∙ ip.named; few = ip.few; more = ip.more; whole = ap (λ u. b ∷ u) ip.whole }
 
-ended_name : (keeps : Bool) (use_of : PathUse) (p : PathPlace) (name : Word) (names : List Word) (b : ℕ) (found : Predicate) (t : Word) → path_step p (length name == 0) b ≡ step_of.Ends
+ended_name : (keeps : Bool) (use_of : PathUse) (p : PathPlace) (name : ByteString) (names : List ByteString) (b : ℕ) (found : Predicate) (t : ByteString) → path_step p (length name == 0) b ≡ step_of.Ends
     → InPath keeps use_of place.Name [] (names ++ name ∷ []) found t → InPath keeps use_of p name names found (b ∷ t)
 ended_name keeps use_of p name names b found t e ip =
     let regrouped : (names ++ name ∷ []) ++ ip.others ≡ names ++ (name ∷ ip.others) = append_assoc names (name ∷ []) ip.others in
@@ -104,18 +104,18 @@ ended_name keeps use_of p name names b found t e ip =
       whole = ap (λ u. b ∷ u) ip.whole;
     }
 
-whole_name : (keeps : Bool) (use_of : PathUse) (p : PathPlace) (name : Word) (names : List Word) (found : Predicate) (t : Word) → may_end p ≡ true → length names < 31
+whole_name : (keeps : Bool) (use_of : PathUse) (p : PathPlace) (name : ByteString) (names : List ByteString) (found : Predicate) (t : ByteString) → may_end p ≡ true → length names < 31
     → Blanks (BehindPath keeps use_of (names ++ name ∷ []) found) t → InPath keeps use_of p name names found t
 whole_name keeps use_of p name names found t may few bl =
     record { front = []; back = t; others = name ∷ []; named = only_name p name may; few = omega (arith, few, length-append names (name ∷ [])); more = bl; whole = refl }
 
-pub behind_path_rest : (most : ℕ) (r : Reader) (use_of : PathUse) (p : List Word) (all : Disjunction) (text : Word) → RestExpected most r.keeps r.frame r.outer (behind_path use_of p) all text
+pub behind_path_rest : (most : ℕ) (r : Reader) (use_of : PathUse) (p : List ByteString) (all : Disjunction) (text : ByteString) → RestExpected most r.keeps r.frame r.outer (behind_path use_of p) all text
     → Rest_of most r (λ found. Blanks (BehindPath r.keeps use_of p found)) all text
 behind_path_rest most r path_of.Compared p all text rest = rest
 behind_path_rest most r (path_of.Called call.Exists) p all text rest = rest
 behind_path_rest most r (path_of.Called (call.Has s)) p all text rest = rest
 
-pub back_in_path : (most : ℕ) (r next : Reader) (use_of : PathUse) (p : PathPlace) (name : Word) (names : List Word) (b : ℕ) (all : Disjunction) (text : Word)
+pub back_in_path : (most : ℕ) (r next : Reader) (use_of : PathUse) (p : PathPlace) (name : ByteString) (names : List ByteString) (b : ℕ) (all : Disjunction) (text : ByteString)
     → ((n : Reader) → behind_blanks most r (behind_path use_of (names ++ name ∷ [])) b ≡ good n → Rest most n all text → RestExpected most r.keeps r.frame r.outer (behind_path use_of (names ++ name ∷ [])) all (b ∷ text))
     → (s : PathStep) → path_step p (length name == 0) b ≡ s
     → in_path most r use_of p name names b s ≡ good next → Rest most next all text → Rest_of most r (InPath r.keeps use_of p name names) all (b ∷ text)
@@ -141,17 +141,17 @@ back_in_path most r next use_of p name names b all text behind step_of.Refused e
     (λ no_ e1. bad stop.Refused next e1)
 
 -- ---- a text in quotes
-behind_text_rest : (use_of : TextUse) (word other : Word) (found : Predicate) (t : Word) → word ≡ other → BehindText use_of word found t → BehindText use_of other found t
+behind_text_rest : (use_of : TextUse) (word other : ByteString) (found : Predicate) (t : ByteString) → word ≡ other → BehindText use_of word found t → BehindText use_of other found t
 behind_text_rest use_of word other found t e m = subst (λ w. BehindText use_of w found t) e m
 
-quoted_plain : (b : ℕ) (front word : Word) → (b == 34) ≡ false → (b == 92) ≡ false → quoted front ≡ Some word → quoted (b ∷ front) ≡ Some (b ∷ word)
+quoted_plain : (b : ℕ) (front word : ByteString) → (b == 34) ≡ false → (b == 92) ≡ false → quoted front ≡ Some word → quoted (b ∷ front) ≡ Some (b ∷ word)
 quoted_plain b [] word h g e = absurd (cc)
 quoted_plain b (c ∷ rest) word h g e =
     ap (λ t. cond t None (cond (b == 92) (before_rest (escaped c) (quoted rest)) (before_rest (Some b) (quoted (c ∷ rest))))) h
     ∙ ap (λ t. cond t (before_rest (escaped c) (quoted rest)) (before_rest (Some b) (quoted (c ∷ rest)))) g
     ∙ ap (λ o. before_rest (Some b) o) e
 
-plain_text : (use_of : TextUse) (held : Word) (b : ℕ) (found : Predicate) (t : Word) → (b == 34) ≡ false → (b == 92) ≡ false → InText use_of (held ++ b ∷ []) found t → InText use_of held found (b ∷ t)
+plain_text : (use_of : TextUse) (held : ByteString) (b : ℕ) (found : Predicate) (t : ByteString) → (b == 34) ≡ false → (b == 92) ≡ false → InText use_of (held ++ b ∷ []) found t → InText use_of held found (b ∷ t)
 plain_text use_of held b found t h g it =
     record {
       front = b ∷ it.front;
@@ -162,7 +162,7 @@ plain_text use_of held b found t h g it =
       whole = ap (λ u. b ∷ u) it.whole;
     }
 
-escaped_text : (use_of : TextUse) (held : Word) (found : Predicate) (t : Word) → InEscape use_of held found t → InText use_of held found (92 ∷ t)
+escaped_text : (use_of : TextUse) (held : ByteString) (found : Predicate) (t : ByteString) → InEscape use_of held found t → InText use_of held found (92 ∷ t)
 escaped_text use_of held found t ie =
     let it = ie.more in
     record {
@@ -174,11 +174,11 @@ escaped_text use_of held found t ie =
       whole = ap (λ u. 92 ∷ u) (ie.whole ∙ ap (λ u. ie.letter ∷ u) it.whole);
     }
 
-ended_text : (use_of : TextUse) (held : Word) (found : Predicate) (t : Word) → BehindText use_of held found t → InText use_of held found (34 ∷ t)
+ended_text : (use_of : TextUse) (held : ByteString) (found : Predicate) (t : ByteString) → BehindText use_of held found t → InText use_of held found (34 ∷ t)
 ended_text use_of held found t m =
     record { front = 34 ∷ []; back = t; word = []; spelled = refl; more = behind_text_rest use_of held (held ++ []) found t (sym (append-nil held)) m; whole = refl }
 
-back_end_text : (most : ℕ) (r next : Reader) (use_of : TextUse) (held : Word) (all : Disjunction) (text : Word) → good (behind_text r use_of held) ≡ good next → Rest most next all text
+back_end_text : (most : ℕ) (r next : Reader) (use_of : TextUse) (held : ByteString) (all : Disjunction) (text : ByteString) → good (behind_text r use_of held) ≡ good next → Rest most next all text
     → Rest_of most r (InText use_of held) all (34 ∷ text)
 back_end_text most r next (text_of.Literal p e) held all text h rest =
     let q = equal_to p e (literal.Words held) in
@@ -194,7 +194,7 @@ back_end_text most r next (text_of.Part p) held all text h rest =
     via most r.keeps r.frame r.outer (λ found. Blanks (Close (Contains p held) found)) (InText (text_of.Part p) held) all 34 text (λ found t bl. ended_text (text_of.Part p) held found t bl)
     (land (at r (mode.Expects (wants.Close (Contains p held)))) next (λ x. Rest most x all text) h rest)
 
-pub back_text : (most : ℕ) (r next : Reader) (use_of : TextUse) (held : Word) (b : ℕ) (all : Disjunction) (text : Word) → in_text r use_of false held b ≡ good next → Rest most next all text
+pub back_text : (most : ℕ) (r next : Reader) (use_of : TextUse) (held : ByteString) (b : ℕ) (all : Disjunction) (text : ByteString) → in_text r use_of false held b ≡ good next → Rest most next all text
     → Rest_of most r (InText use_of held) all (b ∷ text)
 back_text most r next use_of held b all text h rest =
     split (b == 34) (good (behind_text r use_of held)) (cond (b == 92) (good (at r (mode.Text use_of true held))) (good (at r (mode.Text use_of false (held ++ b ∷ []))))) (good next) h
@@ -206,19 +206,19 @@ back_text most r next use_of held b all text h rest =
     (λ no2 e. via most r.keeps r.frame r.outer (InText use_of (held ++ b ∷ [])) (InText use_of held) all b text (λ found t it. plain_text use_of held b found t no1 no2 it)
     (land (at r (mode.Text use_of false (held ++ b ∷ []))) next (λ x. Rest most x all text) e rest)))
 
-back_escape_at : (most : ℕ) (r next : Reader) (use_of : TextUse) (held : Word) (b : ℕ) (all : Disjunction) (text : Word) (o : Option ℕ) → escaped b ≡ o → with_escape r use_of held o ≡ good next → Rest most next all text
+back_escape_at : (most : ℕ) (r next : Reader) (use_of : TextUse) (held : ByteString) (b : ℕ) (all : Disjunction) (text : ByteString) (o : Option ℕ) → escaped b ≡ o → with_escape r use_of held o ≡ good next → Rest most next all text
     → Rest_of most r (InEscape use_of held) all (b ∷ text)
 back_escape_at most r next use_of held b all text None e h rest = bad stop.Refused next h
 back_escape_at most r next use_of held b all text (Some x) e h rest =
     via most r.keeps r.frame r.outer (InText use_of (held ++ x ∷ [])) (InEscape use_of held) all b text (λ found t it. record { letter = b; byte = x; back = t; stands = e; more = it; whole = refl })
     (land (at r (mode.Text use_of false (held ++ x ∷ []))) next (λ y. Rest most y all text) h rest)
 
-pub back_escape : (most : ℕ) (r next : Reader) (use_of : TextUse) (held : Word) (b : ℕ) (all : Disjunction) (text : Word) → in_text r use_of true held b ≡ good next → Rest most next all text
+pub back_escape : (most : ℕ) (r next : Reader) (use_of : TextUse) (held : ByteString) (b : ℕ) (all : Disjunction) (text : ByteString) → in_text r use_of true held b ≡ good next → Rest most next all text
     → Rest_of most r (InEscape use_of held) all (b ∷ text)
 back_escape most r next use_of held b all text h rest = back_escape_at most r next use_of held b all text (escaped b) refl h rest
 
 -- ---- a pattern
-pub back_pattern : (most : ℕ) (r next : Reader) (p : List Word) (held : Word) (b : ℕ) (all : Disjunction) (text : Word) → in_pattern r p held b ≡ good next → Rest most next all text
+pub back_pattern : (most : ℕ) (r next : Reader) (p : List ByteString) (held : ByteString) (b : ℕ) (all : Disjunction) (text : ByteString) → in_pattern r p held b ≡ good next → Rest most next all text
     → Rest_of most r (InPattern r.keeps p held) all (b ∷ text)
 back_pattern most r next p held b all text h rest =
     split (b == 39) (good (at r (mode.Expects (wants.Close (sought r.keeps p held))))) (good (at r (mode.Pattern p (held ++ b ∷ [])))) (good next) h
@@ -236,7 +236,7 @@ back_pattern most r next p held b all text h rest =
     })
     (land (at r (mode.Pattern p (held ++ b ∷ []))) next (λ x. Rest most x all text) e rest))
 
-pub back_mark : (most : ℕ) (r next : Reader) (p : List Word) (b : ℕ) (all : Disjunction) (text : Word) → cond (b == 39) (good (at r (mode.Pattern p []))) (wrong stop.Refused) ≡ good next → Rest most next all text
+pub back_mark : (most : ℕ) (r next : Reader) (p : List ByteString) (b : ℕ) (all : Disjunction) (text : ByteString) → cond (b == 39) (good (at r (mode.Pattern p []))) (wrong stop.Refused) ≡ good next → Rest most next all text
     → Rest_of most r (InMark r.keeps p) all (b ∷ text)
 back_mark most r next p b all text h rest =
     split (b == 39) (good (at r (mode.Pattern p []))) (wrong stop.Refused) (good next) h

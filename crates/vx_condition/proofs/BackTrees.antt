@@ -2,7 +2,7 @@
 use Rattle.std.proofs.Common.{◌≡◌, ℕ, max, ◌+◌, ◌-◌, ◌≤◌, Bool, true, cond, ◌==◌, List, [], ◌∷◌, ◌++◌, codes, refl, sym, ◌∙◌, ap, subst, append_assoc, append-nil, arith}
 use Rattle.std.specs.List.{list_all}
 use Rattle.std.proofs.lemmas.Bool.{and_parts, and_from}
-use Rattle.vx_value.specs.Texts.{Word}
+use Rattle.vx_value.specs.Texts.{ByteString}
 use Rattle.vx_condition.specs.Trees.{Disjunction}
 use Rattle.vx_condition.specs.Grammar.{is_blank}
 use Rattle.vx_condition.specs.Moves.{at, with_term}
@@ -22,12 +22,12 @@ use Rattle.vx_condition.proofs.Rests.{MoreTerms, MoreBranches, all_with, Tails, 
 use Rattle.vx_condition.proofs.Backs.{good, wrong, split, land, bad, as_byte}
 
 -- ---- pieces of the grammar
-pub conjunction_with : (t : Term) (ts : Conjunction) (front tail : Word) → IsTermText t front → MoreTerms ts tail → IsConjunctionText (term t ts) (front ++ tail)
+pub conjunction_with : (t : Term) (ts : Conjunction) (front tail : ByteString) → IsTermText t front → MoreTerms ts tail → IsConjunctionText (term t ts) (front ++ tail)
 conjunction_with t no_term front tail is more = subst (IsTermText t) (sym (append-nil front) ∙ ap (λ u. front ++ u) (sym more)) is
 conjunction_with t (term u us) front tail is more =
     record { front = front; blanks = more.blanks; back = more.back; first = is; blank = more.blank; more = more.more; whole = ap (λ w. front ++ w) more.whole }
 
-pub disjunction_with : (c : Conjunction) (cs : Disjunction) (front tail : Word) → IsConjunctionText c front → MoreBranches cs tail → IsDisjunctionText (branch c cs) (front ++ tail)
+pub disjunction_with : (c : Conjunction) (cs : Disjunction) (front tail : ByteString) → IsConjunctionText c front → MoreBranches cs tail → IsDisjunctionText (branch c cs) (front ++ tail)
 disjunction_with c no_branch front tail is more = subst (IsConjunctionText c) (sym (append-nil front) ∙ ap (λ u. front ++ u) (sym more)) is
 disjunction_with c (branch d ds) front tail is more =
     record { front = front; blanks = more.blanks; back = more.back; first = is; blank = more.blank; more = more.more; whole = ap (λ w. front ++ w) more.whole }
@@ -36,10 +36,10 @@ pub most_of : (m n k : ℕ) → m ≤ k → n ≤ k → max m n ≤ k
 most_of m n k h g = omega arith
 
 -- ---- behind a term: `&&` and another term
-and_text : (bs bl front x y : Word) → bs ++ (38 ∷ 38 ∷ (bl ++ (front ++ (x ++ y)))) ≡ (bs ++ (38 ∷ 38 ∷ (bl ++ (front ++ x)))) ++ y
+and_text : (bs bl front x y : ByteString) → bs ++ (38 ∷ 38 ∷ (bl ++ (front ++ (x ++ y)))) ≡ (bs ++ (38 ∷ 38 ∷ (bl ++ (front ++ x)))) ++ y
 and_text bs bl front x y = simp append_assoc
 
-and_tails : (most base : ℕ) (t : Term) (ts : Conjunction) (cs : Disjunction) (bs bl front text : Word) → list_all is_blank bs ≡ true → list_all is_blank bl ≡ true → IsTermText t front → term_levels t ≤ most - base
+and_tails : (most base : ℕ) (t : Term) (ts : Conjunction) (cs : Disjunction) (bs bl front text : ByteString) → list_all is_blank bs ≡ true → list_all is_blank bl ≡ true → IsTermText t front → term_levels t ≤ most - base
     → Tails most base ts cs text → Tails most base (term t ts) cs (bs ++ (38 ∷ 38 ∷ (bl ++ (front ++ text))))
 and_tails most base t ts cs bs bl front text hb hl is low tails =
     record {
@@ -68,7 +68,7 @@ and_all keeps f t ts cs plain =
 low_plain : (most base n l : ℕ) → n ≡ 0 → l ≤ most - (base + n) → l ≤ most - base
 low_plain most base n l e h = omega arith
 
-and_after : (most : ℕ) (keeps : Bool) (f : Frame) (outer : List Frame) (all : Disjunction) (t : Term) (bs bl front back : Word) → f.negations ≡ 0
+and_after : (most : ℕ) (keeps : Bool) (f : Frame) (outer : List Frame) (all : Disjunction) (t : Term) (bs bl front back : ByteString) → f.negations ≡ 0
     → list_all is_blank bs ≡ true → list_all is_blank bl ≡ true → IsTermText t front → term_levels t ≤ most - levels_in f
     → After most keeps (with_term f (kept_term keeps t)) outer all back → After most keeps f outer all (bs ++ (38 ∷ 38 ∷ (bl ++ (front ++ back))))
 and_after most keeps f [] all t bs bl front back plain hb hl is low e =
@@ -92,13 +92,13 @@ and_after most keeps f (g ∷ outer) all t bs bl front back plain hb hl is low c
     }
 
 -- ---- behind a term: `||` and another branch
-or_text : (bs bl front x y : Word) → bs ++ (124 ∷ 124 ∷ (bl ++ (front ++ (x ++ y)))) ≡ bs ++ (124 ∷ 124 ∷ (bl ++ ((front ++ x) ++ y)))
+or_text : (bs bl front x y : ByteString) → bs ++ (124 ∷ 124 ∷ (bl ++ (front ++ (x ++ y)))) ≡ bs ++ (124 ∷ 124 ∷ (bl ++ ((front ++ x) ++ y)))
 or_text bs bl front x y = simp append_assoc
 
-or_end : (bs bl front x y : Word) → bs ++ (124 ∷ 124 ∷ (bl ++ (front ++ (x ++ y)))) ≡ (bs ++ (124 ∷ 124 ∷ (bl ++ (front ++ x)))) ++ y
+or_end : (bs bl front x y : ByteString) → bs ++ (124 ∷ 124 ∷ (bl ++ (front ++ (x ++ y)))) ≡ (bs ++ (124 ∷ 124 ∷ (bl ++ (front ++ x)))) ++ y
 or_end bs bl front x y = simp append_assoc
 
-or_tails : (most base : ℕ) (t : Term) (ts : Conjunction) (cs : Disjunction) (bs bl front text : Word) → list_all is_blank bs ≡ true → list_all is_blank bl ≡ true → IsTermText t front → term_levels t ≤ most - base
+or_tails : (most base : ℕ) (t : Term) (ts : Conjunction) (cs : Disjunction) (bs bl front text : ByteString) → list_all is_blank bs ≡ true → list_all is_blank bl ≡ true → IsTermText t front → term_levels t ≤ most - base
     → Tails most base ts cs text → Tails most base no_term (branch (term t ts) cs) (bs ++ (124 ∷ 124 ∷ (bl ++ (front ++ text))))
 or_tails most base t ts cs bs bl front text hb hl is low tails =
     record {
@@ -136,7 +136,7 @@ or_all keeps f t ts cs plain =
     ∙ ap (λ n. f.branches ++ (f.terms ∷ ((negated_times n (kept_term keeps t) ∷ terms_in (kept_conjunction keeps ts)) ∷ branches_in (kept_disjunction keeps cs)))) plain
     ∙ ap (λ us. f.branches ++ (us ∷ ((kept_term keeps t ∷ terms_in (kept_conjunction keeps ts)) ∷ branches_in (kept_disjunction keeps cs)))) (sym (append-nil f.terms)))
 
-or_after : (most : ℕ) (keeps : Bool) (f : Frame) (outer : List Frame) (all : Disjunction) (t : Term) (bs bl front back : Word) → f.negations ≡ 0
+or_after : (most : ℕ) (keeps : Bool) (f : Frame) (outer : List Frame) (all : Disjunction) (t : Term) (bs bl front back : ByteString) → f.negations ≡ 0
     → list_all is_blank bs ≡ true → list_all is_blank bl ≡ true → IsTermText t front → term_levels t ≤ most - levels_in f
     → After most keeps (with_term (branched f) (kept_term keeps t)) outer all back → After most keeps f outer all (bs ++ (124 ∷ 124 ∷ (bl ++ (front ++ back))))
 or_after most keeps f [] all t bs bl front back plain hb hl is low e =
@@ -166,7 +166,7 @@ none_more most base = record { front = []; back = []; terms = refl; branches = r
 pub close_all : (keeps : Bool) (f : Frame) → disjunction_of (all_branches f) ≡ all_with keeps f no_term no_branch
 close_all keeps f = ap (λ us. disjunction_of (f.branches ++ us ∷ [])) (sym (append-nil f.terms))
 
-back_closed : (most : ℕ) (r next : Reader) (outer : List Frame) (all : Disjunction) (bs text : Word) → list_all is_blank bs ≡ true → closed r outer ≡ good next → Rest most next all text
+back_closed : (most : ℕ) (r next : Reader) (outer : List Frame) (all : Disjunction) (bs text : ByteString) → list_all is_blank bs ≡ true → closed r outer ≡ good next → Rest most next all text
     → After most r.keeps r.frame outer all (bs ++ 41 ∷ text)
 back_closed most r next [] all bs text hb h rest = bad stop.Refused next h
 back_closed most r next (g ∷ outer) all bs text hb h rest =
@@ -186,7 +186,7 @@ back_closed most r next (g ∷ outer) all bs text hb h rest =
     }
 
 -- ---- where a term may be joined
-and_joined : (most : ℕ) (r : Reader) (all : Disjunction) (text bs : Word) → r.frame.negations ≡ 0 → list_all is_blank bs ≡ true
+and_joined : (most : ℕ) (r : Reader) (all : Disjunction) (text bs : ByteString) → r.frame.negations ≡ 0 → list_all is_blank bs ≡ true
     → Rest most (at r (mode.Word fixed.And 1 (Wants wants.Operand))) all text → After most r.keeps r.frame r.outer all (bs ++ 38 ∷ text)
 and_joined most r all text bs plain hb iw =
     let bl = iw.more in
@@ -194,7 +194,7 @@ and_joined most r all text bs plain hb iw =
     subst (After most r.keeps r.frame r.outer all) (ap (λ u. bs ++ (38 ∷ 38 ∷ u)) (ap (λ u. bl.blanks ++ u) (sym before.whole) ∙ sym bl.whole) ∙ ap (λ u. bs ++ (38 ∷ u)) (sym iw.whole))
     (and_after most r.keeps r.frame r.outer all before.first bs bl.blanks before.front before.back plain hb bl.blank before.spelled before.low before.more)
 
-or_joined : (most : ℕ) (r : Reader) (all : Disjunction) (text bs : Word) → r.frame.negations ≡ 0 → list_all is_blank bs ≡ true
+or_joined : (most : ℕ) (r : Reader) (all : Disjunction) (text bs : ByteString) → r.frame.negations ≡ 0 → list_all is_blank bs ≡ true
     → Rest most (record r { frame = branched r.frame; mode = mode.Word fixed.Or 1 (Wants wants.Operand) }) all text → After most r.keeps r.frame r.outer all (bs ++ 124 ∷ text)
 or_joined most r all text bs plain hb iw =
     let bl = iw.more in
@@ -202,7 +202,7 @@ or_joined most r all text bs plain hb iw =
     subst (After most r.keeps r.frame r.outer all) (ap (λ u. bs ++ (124 ∷ 124 ∷ u)) (ap (λ u. bl.blanks ++ u) (sym before.whole) ∙ sym bl.whole) ∙ ap (λ u. bs ++ (124 ∷ u)) (sym iw.whole))
     (or_after most r.keeps r.frame r.outer all before.first bs bl.blanks before.front before.back plain hb bl.blank before.spelled before.low before.more)
 
-joined_behind : (most : ℕ) (r next : Reader) (b : ℕ) (all : Disjunction) (text bs : Word) → r.frame.negations ≡ 0 → list_all is_blank bs ≡ true → joint r b ≡ good next → Rest most next all text
+joined_behind : (most : ℕ) (r next : Reader) (b : ℕ) (all : Disjunction) (text bs : ByteString) → r.frame.negations ≡ 0 → list_all is_blank bs ≡ true → joint r b ≡ good next → Rest most next all text
     → After most r.keeps r.frame r.outer all (bs ++ b ∷ text)
 joined_behind most r next b all text bs plain hb h rest =
     split (b == 38) (good (at r (mode.Word fixed.And 1 (Wants wants.Operand)))) (cond (b == 124) (good (record r { frame = branched r.frame; mode = mode.Word fixed.Or 1 (Wants wants.Operand) })) (cond (b == 41) (closed r r.outer) (wrong stop.Refused))) (good next) h
@@ -215,19 +215,19 @@ joined_behind most r next b all text bs plain hb h rest =
     (λ is e. as_byte b 41 (λ x. After most r.keeps r.frame r.outer all (bs ++ x ∷ text)) is (back_closed most r next r.outer all bs text hb e rest))
     (λ no3 e. bad stop.Refused next e)))
 
-pub back_joint : (most : ℕ) (r next : Reader) (b : ℕ) (all : Disjunction) (text : Word) → r.frame.negations ≡ 0 → joint r b ≡ good next → Rest most next all text
+pub back_joint : (most : ℕ) (r next : Reader) (b : ℕ) (all : Disjunction) (text : ByteString) → r.frame.negations ≡ 0 → joint r b ≡ good next → Rest most next all text
     → Joins most r.keeps r.frame r.outer all (b ∷ text)
 back_joint most r next b all text plain h rest = record { behind = λ bs hb. joined_behind most r next b all text bs plain hb h rest }
 
-pub blank_joins : (most : ℕ) (keeps : Bool) (f : Frame) (outer : List Frame) (b : ℕ) (all : Disjunction) (text : Word) → is_blank b ≡ true → Joins most keeps f outer all text → Joins most keeps f outer all (b ∷ text)
+pub blank_joins : (most : ℕ) (keeps : Bool) (f : Frame) (outer : List Frame) (b : ℕ) (all : Disjunction) (text : ByteString) → is_blank b ≡ true → Joins most keeps f outer all text → Joins most keeps f outer all (b ∷ text)
 blank_joins most keeps f outer b all text is j =
     record { behind = λ bs hb. subst (After most keeps f outer all) (append_assoc bs (b ∷ []) text) (j.behind (bs ++ b ∷ []) (blanks_more bs hb)) }
   where
-    blanks_more : (bs : Word) → list_all is_blank bs ≡ true → list_all is_blank (bs ++ b ∷ []) ≡ true
+    blanks_more : (bs : ByteString) → list_all is_blank bs ≡ true → list_all is_blank (bs ++ b ∷ []) ≡ true
     blanks_more [] h = and_from (is_blank b) true is refl
     blanks_more (c ∷ cs) h = let both = and_parts (is_blank c) (list_all is_blank cs) h in and_from (is_blank c) (list_all is_blank (cs ++ b ∷ [])) both.0 (blanks_more cs both.1)
 
-pub back_behind_operand : (most : ℕ) (r next : Reader) (b : ℕ) (all : Disjunction) (text : Word) → r.frame.negations ≡ 0 → behind_operand r b ≡ good next → Rest most next all text
+pub back_behind_operand : (most : ℕ) (r next : Reader) (b : ℕ) (all : Disjunction) (text : ByteString) → r.frame.negations ≡ 0 → behind_operand r b ≡ good next → Rest most next all text
     → After most r.keeps r.frame r.outer all (b ∷ text)
 back_behind_operand most r next b all text plain h rest =
     split (is_blank b) (good (at r (mode.Expects wants.Joint))) (joint r b) (good next) h

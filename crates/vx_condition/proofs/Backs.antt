@@ -2,7 +2,7 @@
 use Rattle.std.proofs.Common.{◌≡◌, ℕ, ◌+◌, ◌-◌, ◌*◌, ◌^◌, ◌≤◌, Bool, true, false, cond, not, ◌==◌, ◌&&◌, ◌||◌, Option, Some, None, Result, Ok, Err, ℤ, pos, negsuc, List, [], ◌∷◌, ◌++◌, drop, codes, refl, sym, ◌∙◌, ap, subst, append_assoc, append-nil, arith, nat_le, ltb-true, leb-true, eqb-true, inl, inr}
 use Rattle.std.specs.List.{list_all}
 use Rattle.std.proofs.lemmas.Bool.{and_parts, and_from}
-use Rattle.vx_value.specs.Texts.{Word}
+use Rattle.vx_value.specs.Texts.{ByteString}
 use Rattle.vx_condition.specs.Trees as tree
 use Rattle.vx_condition.specs.Trees.{Disjunction}
 use Rattle.vx_condition.specs.Grammar.{Then, Is, is_blank, is_digit, quoted, begins_well, number_behind, IsPathText, IsString, IsWhole, IsPatternText, sign_of}
@@ -63,30 +63,30 @@ pub as_byte : (b k : ℕ) (P : ℕ → Type 0) → (b == k) ≡ true → P k →
 as_byte b k P h p = subst P (sym (eqb-true b k h)) p
 
 -- ---- one byte before the rest
-pub before_blanks : (More : Word → Type 0) (b : ℕ) (text : Word) → is_blank b ≡ true → Blanks More text → Blanks More (b ∷ text)
+pub before_blanks : (More : ByteString → Type 0) (b : ℕ) (text : ByteString) → is_blank b ≡ true → Blanks More text → Blanks More (b ∷ text)
 before_blanks More b text h bl =
     record { blanks = b ∷ bl.blanks; back = bl.back; blank = and_from (is_blank b) (list_all is_blank bl.blanks) h bl.blank; more = bl.more; whole = ap (λ t. b ∷ t) bl.whole }
 
-pub no_blanks : (More : Word → Type 0) (text : Word) → More text → Blanks More text
+pub no_blanks : (More : ByteString → Type 0) (text : ByteString) → More text → Blanks More text
 no_blanks More text m = record { blanks = []; back = text; blank = refl; more = m; whole = refl }
 
-pub token_then : (First More : Word → Type 0) (token text : Word) → First token → Blanks More text → Then First More (token ++ text)
+pub token_then : (First More : ByteString → Type 0) (token text : ByteString) → First token → Blanks More text → Then First More (token ++ text)
 token_then First More token text f bl =
     record { front = token; blanks = bl.blanks; back = bl.back; first = f; blank = bl.blank; more = bl.more; whole = ap (λ t. token ++ t) bl.whole }
 
-pub via : (most : ℕ) (keeps : Bool) (f : Frame) (outer : List Frame) (L M : Predicate → Word → Type 0) (all : Disjunction) (b : ℕ) (text : Word)
-    → ((found : Predicate) (t : Word) → L found t → M found (b ∷ t)) → Finishes most keeps f outer L all text → Finishes most keeps f outer M all (b ∷ text)
+pub via : (most : ℕ) (keeps : Bool) (f : Frame) (outer : List Frame) (L M : Predicate → ByteString → Type 0) (all : Disjunction) (b : ℕ) (text : ByteString)
+    → ((found : Predicate) (t : ByteString) → L found t → M found (b ∷ t)) → Finishes most keeps f outer L all text → Finishes most keeps f outer M all (b ∷ text)
 via most keeps f outer L M all b text go fin =
     record { found = fin.found; front = b ∷ fin.front; back = fin.back; rest = go fin.found fin.front fin.rest; more = fin.more; whole = ap (λ t. b ∷ t) fin.whole }
 
-pub same_text : (most : ℕ) (keeps : Bool) (f : Frame) (outer : List Frame) (L M : Predicate → Word → Type 0) (all : Disjunction) (text : Word)
-    → ((found : Predicate) (t : Word) → L found t → M found t) → Finishes most keeps f outer L all text → Finishes most keeps f outer M all text
+pub same_text : (most : ℕ) (keeps : Bool) (f : Frame) (outer : List Frame) (L M : Predicate → ByteString → Type 0) (all : Disjunction) (text : ByteString)
+    → ((found : Predicate) (t : ByteString) → L found t → M found t) → Finishes most keeps f outer L all text → Finishes most keeps f outer M all text
 same_text most keeps f outer L M all text go fin =
     record { found = fin.found; front = fin.front; back = fin.back; rest = go fin.found fin.front fin.rest; more = fin.more; whole = fin.whole }
 
 -- behind a fixed word
-pub via_word : (most : ℕ) (keeps : Bool) (f : Frame) (outer : List Frame) (L M : Predicate → Word → Type 0) (all : Disjunction) (w : FixedWord) (b : ℕ) (text : Word)
-    → b ∷ drop 1 (letters_of w) ≡ letters_of w → ((found : Predicate) (t : Word) → L found t → M found (letters_of w ++ t))
+pub via_word : (most : ℕ) (keeps : Bool) (f : Frame) (outer : List Frame) (L M : Predicate → ByteString → Type 0) (all : Disjunction) (w : FixedWord) (b : ℕ) (text : ByteString)
+    → b ∷ drop 1 (letters_of w) ≡ letters_of w → ((found : Predicate) (t : ByteString) → L found t → M found (letters_of w ++ t))
     → InWord w 1 (Finishes most keeps f outer L all) text → Finishes most keeps f outer M all (b ∷ text)
 via_word most keeps f outer L M all w b text begins go iw =
     record {
@@ -98,7 +98,7 @@ via_word most keeps f outer L M all w b text begins go iw =
       whole = ap (λ t. b ∷ t) iw.whole ∙ ap (λ u. b ∷ (drop 1 (letters_of w) ++ u)) iw.more.whole ∙ ap (λ l. l ++ (iw.more.front ++ iw.more.back)) begins ∙ sym (append_assoc (letters_of w) iw.more.front iw.more.back);
     }
 
-pub via_done : (most : ℕ) (keeps : Bool) (f : Frame) (outer : List Frame) (M : Predicate → Word → Type 0) (all : Disjunction) (w : FixedWord) (q : Predicate) (b : ℕ) (text : Word)
+pub via_done : (most : ℕ) (keeps : Bool) (f : Frame) (outer : List Frame) (M : Predicate → ByteString → Type 0) (all : Disjunction) (w : FixedWord) (q : Predicate) (b : ℕ) (text : ByteString)
     → b ∷ drop 1 (letters_of w) ≡ letters_of w → M q (letters_of w)
     → InWord w 1 (After most keeps (with_term f (tree.stated q)) outer all) text → Finishes most keeps f outer M all (b ∷ text)
 via_done most keeps f outer M all w q b text begins m iw =
@@ -112,23 +112,23 @@ via_done most keeps f outer M all w q b text begins m iw =
     }
 
 -- ---- an operator
-signed_by : (p : List Word) (o : Operator) (found : Predicate) (t : Word) → Blanks (LiteralRest p o found) t → Operated p found (sign_for o ++ t)
+signed_by : (p : List ByteString) (o : Operator) (found : Predicate) (t : ByteString) → Blanks (LiteralRest p o found) t → Operated p found (sign_for o ++ t)
 signed_by p o found t bl = record { sign = o; rest = token_then (Is (sign_for o)) (LiteralRest p o found) (sign_for o) t refl bl }
 
-angled : (p : List Word) (c : Comparison) (found : Predicate) (b : ℕ) (t : Word) → sign_of c ≡ b ∷ [] → sign_of (or_equal c) ≡ b ∷ 61 ∷ [] → InAngle p c found t → Operated p found (b ∷ t)
+angled : (p : List ByteString) (c : Comparison) (found : Predicate) (b : ℕ) (t : ByteString) → sign_of c ≡ b ∷ [] → sign_of (or_equal c) ≡ b ∷ 61 ∷ [] → InAngle p c found t → Operated p found (b ∷ t)
 angled p c found b t one two ia =
     subst (Operated p found) (ap (λ s. s ++ ia.back) two ∙ ap (λ u. b ∷ u) (sym ia.whole)) (signed_by p (operator.Compared (or_equal c)) found ia.back ia.more)
 
-plain_angled : (p : List Word) (c : Comparison) (found : Predicate) (b : ℕ) (t : Word) → sign_of c ≡ b ∷ [] → Blanks (Measured p c found) t → Operated p found (b ∷ t)
+plain_angled : (p : List ByteString) (c : Comparison) (found : Predicate) (b : ℕ) (t : ByteString) → sign_of c ≡ b ∷ [] → Blanks (Measured p c found) t → Operated p found (b ∷ t)
 plain_angled p c found b t one bl = subst (Operated p found) (ap (λ s. s ++ t) one) (signed_by p (operator.Compared c) found t bl)
 
-either_angled : (most : ℕ) (r : Reader) (p : List Word) (c : Comparison) (all : Disjunction) (b : ℕ) (text : Word) → sign_of c ≡ b ∷ [] → sign_of (or_equal c) ≡ b ∷ 61 ∷ []
+either_angled : (most : ℕ) (r : Reader) (p : List ByteString) (c : Comparison) (all : Disjunction) (b : ℕ) (text : ByteString) → sign_of c ≡ b ∷ [] → sign_of (or_equal c) ≡ b ∷ 61 ∷ []
     → Rest most (at r (mode.Angle p c)) all text → Finishes most r.keeps r.frame r.outer (Operated p) all (b ∷ text)
 either_angled most r p c all b text one two (inl fin) = via most r.keeps r.frame r.outer (InAngle p c) (Operated p) all b text (λ found t ia. angled p c found b t one two ia) fin
 either_angled most r p c all b text one two (inr fin) =
     via most r.keeps r.frame r.outer (λ found. Blanks (Measured p c found)) (Operated p) all b text (λ found t bl. plain_angled p c found b t one bl) fin
 
-pub back_operator : (most : ℕ) (r next : Reader) (p : List Word) (b : ℕ) (all : Disjunction) (text : Word) → at_some r (operator_mode p b) ≡ good next → Rest most next all text
+pub back_operator : (most : ℕ) (r next : Reader) (p : List ByteString) (b : ℕ) (all : Disjunction) (text : ByteString) → at_some r (operator_mode p b) ≡ good next → Rest most next all text
     → Finishes most r.keeps r.frame r.outer (Operated p) all (b ∷ text)
 back_operator most r next p b all text h rest =
     pick (b == 61) r (Some (mode.Word fixed.Equals 1 (Wants (wants.Literal p (operator.Is equality.Equal))))) (cond (b == 33) (Some (mode.Word fixed.Differs 1 (Wants (wants.Literal p (operator.Is equality.Different))))) (cond (b == 60) (Some (mode.Angle p Less)) (cond (b == 62) (Some (mode.Angle p Greater)) None))) (good next) h
@@ -148,19 +148,19 @@ back_operator most r next p b all text h rest =
     (λ no4 h5. bad stop.Refused next h5))))
 
 -- ---- a literal
-record Counted (p : List Word) (o : Operator) (found : Predicate) (text : Word) : Type 0 where
+record Counted (p : List ByteString) (o : Operator) (found : Predicate) (text : ByteString) : Type 0 where
   number : ℤ
   same : found ≡ with_number p o number
   written : IsWhole number text
 
-as_literal : (p : List Word) (o : Operator) (found : Predicate) (text : Word) → Counted p o found text → LiteralRest p o found text
+as_literal : (p : List ByteString) (o : Operator) (found : Predicate) (text : ByteString) → Counted p o found text → LiteralRest p o found text
 as_literal p (operator.Is e) found text n = record { value = literal.Whole n.number; same = n.same; written = n.written }
 as_literal p (operator.Compared c) found text n = record { number = n.number; same = n.same; written = n.written }
 
-pub digits_with : (b : ℕ) (text : Word) → is_digit b ≡ true → list_all is_digit text ≡ true → list_all is_digit (b ∷ text) ≡ true
+pub digits_with : (b : ℕ) (text : ByteString) → is_digit b ≡ true → list_all is_digit text ≡ true → list_all is_digit (b ∷ text) ≡ true
 digits_with b text h all = and_from (is_digit b) (list_all is_digit text) h all
 
-pub plain_with : (b : ℕ) (text : Word) → (b ≡ 48 → text ≡ []) → begins_well (b ∷ text) ≡ true
+pub plain_with : (b : ℕ) (text : ByteString) → (b ≡ 48 → text ≡ []) → begins_well (b ∷ text) ≡ true
 plain_with b [] h = refl
 plain_with b (c ∷ text) h = go (b == 48) refl
   where
@@ -168,13 +168,13 @@ plain_with b (c ∷ text) h = go (b == 48) refl
     go true e = let empty : c ∷ text ≡ [] = h (eqb-true b 48 e) in absurd (cc)
     go false e = refl
 
-pub zeroed : (b : ℕ) (text : Word) → number_behind 0 (b ∷ text) ≡ number_behind (b - 48) text
+pub zeroed : (b : ℕ) (text : ByteString) → number_behind 0 (b ∷ text) ≡ number_behind (b - 48) text
 zeroed b text = let e : 10 * 0 + (b - 48) ≡ b - 48 = omega arith in ap (λ k. number_behind k text) e
 
 digit_range : (b : ℕ) → is_digit b ≡ true → (48 ≤ b) × (b ≤ 57)
 digit_range b h = let both = and_parts (nat_le 48 b) (nat_le b 57) h in (leb-true 48 b both.0, leb-true b 57 both.1)
 
-counted : (p : List Word) (o : Operator) (found : Predicate) (b : ℕ) (t : Word) → is_digit b ≡ true → InWhole p o false (b - 48) found t → Counted p o found (b ∷ t)
+counted : (p : List ByteString) (o : Operator) (found : Predicate) (b : ℕ) (t : ByteString) → is_digit b ≡ true → InWhole p o false (b - 48) found t → Counted p o found (b ∷ t)
 counted p o found b t d iw =
     let low = digit_range b d in
     record {
@@ -190,11 +190,11 @@ counted p o found b t d iw =
       );
     }
 
-negative_counted : (p : List Word) (o : Operator) (found : Predicate) (t : Word) → InMinus p o found t → Counted p o found (45 ∷ t)
+negative_counted : (p : List ByteString) (o : Operator) (found : Predicate) (t : ByteString) → InMinus p o found t → Counted p o found (45 ∷ t)
 negative_counted p o found t im =
     record { number = negsuc im.less; same = im.same; written = (record { rest = t; sign = refl; number = im.number }, im.small) }
 
-numbered : (most : ℕ) (r : Reader) (p : List Word) (o : Operator) (all : Disjunction) (b : ℕ) (text : Word) (t : Bool) → (b == 45) ≡ t → begins_number b ≡ true
+numbered : (most : ℕ) (r : Reader) (p : List ByteString) (o : Operator) (all : Disjunction) (b : ℕ) (text : ByteString) (t : Bool) → (b == 45) ≡ t → begins_number b ≡ true
     → RestAt most r.keeps r.frame r.outer (cond t (mode.Minus p o) (mode.Whole p o false (b - 48))) all text
     → Finishes most r.keeps r.frame r.outer (LiteralRest p o) all (b ∷ text)
 numbered most r p o all b text true is begins rest =
@@ -204,17 +204,17 @@ numbered most r p o all b text false no_ begins rest =
     let d : is_digit b ≡ true = ap (λ t. t || is_digit b) (sym no_) ∙ begins in
     via most r.keeps r.frame r.outer (InWhole p o false (b - 48)) (LiteralRest p o) all b text (λ found u iw. as_literal p o found (b ∷ u) (counted p o found b u d iw)) rest
 
-number_back : (most : ℕ) (r next : Reader) (p : List Word) (o : Operator) (b : ℕ) (all : Disjunction) (text : Word) → begins_number b ≡ true
+number_back : (most : ℕ) (r next : Reader) (p : List ByteString) (o : Operator) (b : ℕ) (all : Disjunction) (text : ByteString) → begins_number b ≡ true
     → good (at r (number_mode p o b)) ≡ good next → Rest most next all text → Finishes most r.keeps r.frame r.outer (LiteralRest p o) all (b ∷ text)
 number_back most r next p o b all text begins h rest =
     numbered most r p o all b text (b == 45) refl begins (land (at r (number_mode p o b)) next (λ x. Rest most x all text) h rest)
 
-quoted_literal : (p : List Word) (e : Equality) (found : Predicate) (t : Word) → InText (text_of.Literal p e) [] found t → Equated p e found (34 ∷ t)
+quoted_literal : (p : List ByteString) (e : Equality) (found : Predicate) (t : ByteString) → InText (text_of.Literal p e) [] found t → Equated p e found (34 ∷ t)
 quoted_literal p e found t it =
     let whole : t ≡ it.front = it.whole ∙ ap (λ u. it.front ++ u) it.more.none ∙ append-nil it.front in
     record { value = literal.Words it.word; same = it.more.same; written = record { rest = t; opened = refl; held = ap quoted whole ∙ it.spelled } }
 
-word_literal : (most : ℕ) (r next : Reader) (p : List Word) (e : Equality) (b : ℕ) (all : Disjunction) (text : Word) → at_some r (word_mode p e b) ≡ good next → Rest most next all text
+word_literal : (most : ℕ) (r next : Reader) (p : List ByteString) (e : Equality) (b : ℕ) (all : Disjunction) (text : ByteString) → at_some r (word_mode p e b) ≡ good next → Rest most next all text
     → Finishes most r.keeps r.frame r.outer (Equated p e) all (b ∷ text)
 word_literal most r next p e b all text h rest =
     pick (b == 34) r (Some (mode.Text (text_of.Literal p e) false [])) (cond (b == 116) (Some (mode.Word fixed.True 1 (Done (equal_to p e (literal.Truth true))))) (cond (b == 102) (Some (mode.Word fixed.False 1 (Done (equal_to p e (literal.Truth false))))) (cond (b == 110) (Some (mode.Word fixed.Null 1 (Done (equal_to p e literal.Null)))) None))) (good next) h
@@ -231,7 +231,7 @@ word_literal most r next p e b all text h rest =
     (land (at r (mode.Word fixed.Null 1 (Done (equal_to p e literal.Null)))) next (λ x. Rest most x all text) e1 rest)))
     (λ no4 h5. bad stop.Refused next h5))))
 
-pub back_literal : (most : ℕ) (r next : Reader) (p : List Word) (o : Operator) (b : ℕ) (all : Disjunction) (text : Word) → at_some r (literal_mode p o b) ≡ good next → Rest most next all text
+pub back_literal : (most : ℕ) (r next : Reader) (p : List ByteString) (o : Operator) (b : ℕ) (all : Disjunction) (text : ByteString) → at_some r (literal_mode p o b) ≡ good next → Rest most next all text
     → Finishes most r.keeps r.frame r.outer (LiteralRest p o) all (b ∷ text)
 back_literal most r next p (operator.Is e) b all text h rest =
     pick (begins_number b) r (Some (number_mode p (operator.Is e) b)) (word_mode p e b) (good next) h
@@ -243,10 +243,10 @@ back_literal most r next p (operator.Compared c) b all text h rest =
     (λ no_ e1. bad stop.Refused next e1)
 
 -- ---- a call
-abbrev pub Rest_of : ℕ → Reader → (Predicate → Word → Type 0) → Disjunction → Word → Type 0
+abbrev pub Rest_of : ℕ → Reader → (Predicate → ByteString → Type 0) → Disjunction → ByteString → Type 0
 Rest_of most r L all text = Finishes most r.keeps r.frame r.outer L all text
 
-pub open_bracket : (most : ℕ) (r next : Reader) (c : call_type.Call) (b : ℕ) (all : Disjunction) (text : Word) → (b == 40) ≡ true
+pub open_bracket : (most : ℕ) (r next : Reader) (c : call_type.Call) (b : ℕ) (all : Disjunction) (text : ByteString) → (b == 40) ≡ true
     → good (at r (mode.Expects (wants.Path c))) ≡ good next → Rest most next all text → Rest_of most r (Bracket r.keeps c) all (b ∷ text)
 open_bracket most r next c b all text is e rest =
     as_byte b 40 (λ x. Rest_of most r (Bracket r.keeps c) all (x ∷ text)) is
@@ -254,11 +254,11 @@ open_bracket most r next c b all text is e rest =
     (λ found t bl. token_then (Is (codes "(")) (Pathed r.keeps (path_of.Called c) found) (codes "(") t refl bl)
     (land (at r (mode.Expects (wants.Path c))) next (λ x. Rest most x all text) e rest))
 
-opened : (keeps : Bool) (c : call_type.Call) (found : Predicate) (text : Word) → Bracket keeps c found text → Open keeps c found text
+opened : (keeps : Bool) (c : call_type.Call) (found : Predicate) (text : ByteString) → Bracket keeps c found text → Open keeps c found text
 opened keeps call.Exists found text x = x
 opened keeps (call.Has s) found text x = inl x
 
-marked : (most : ℕ) (r next : Reader) (c : call_type.Call) (b : ℕ) (all : Disjunction) (text : Word) → ((b == 33) && may_be_marked c) ≡ true
+marked : (most : ℕ) (r next : Reader) (c : call_type.Call) (b : ℕ) (all : Disjunction) (text : ByteString) → ((b == 33) && may_be_marked c) ≡ true
     → good (at r (mode.Expects (wants.Bracket c))) ≡ good next → Rest most next all text → Rest_of most r (Open r.keeps c) all (b ∷ text)
 marked most r next call.Exists b all text h e rest = let both = and_parts (b == 33) false h in absurd (cc (both.1))
 marked most r next (call.Has s) b all text h e rest =
@@ -268,7 +268,7 @@ marked most r next (call.Has s) b all text h e rest =
     (λ found t bl. inr (token_then (Is (codes "!")) (Bracket r.keeps (call.Has s) found) (codes "!") t refl bl))
     (land (at r (mode.Expects (wants.Bracket (call.Has s)))) next (λ x. Rest most x all text) e rest))
 
-pub back_open : (most : ℕ) (r next : Reader) (c : call_type.Call) (b : ℕ) (all : Disjunction) (text : Word) → expected most r (wants.Open c) b ≡ good next → Rest most next all text
+pub back_open : (most : ℕ) (r next : Reader) (c : call_type.Call) (b : ℕ) (all : Disjunction) (text : ByteString) → expected most r (wants.Open c) b ≡ good next → Rest most next all text
     → Rest_of most r (Open r.keeps c) all (b ∷ text)
 back_open most r next c b all text h rest =
     split (b == 40) (good (at r (mode.Expects (wants.Path c)))) (cond ((b == 33) && may_be_marked c) (good (at r (mode.Expects (wants.Bracket c)))) (wrong stop.Refused)) (good next) h
@@ -278,7 +278,7 @@ back_open most r next c b all text h rest =
     (λ no2 e. bad stop.Refused next e))
 
 -- a path that is whole, behind its dot
-pub pathed : (keeps : Bool) (use_of : PathUse) (found : Predicate) (t : Word) → InPath keeps use_of place.Name [] [] found t → Pathed keeps use_of found (46 ∷ t)
+pub pathed : (keeps : Bool) (use_of : PathUse) (found : Predicate) (t : ByteString) → InPath keeps use_of place.Name [] [] found t → Pathed keeps use_of found (46 ∷ t)
 pathed keeps use_of found t ip =
     record {
       path = ip.others;
@@ -286,26 +286,26 @@ pathed keeps use_of found t ip =
           (token_then (IsPathText ip.others) (BehindPath keeps use_of ip.others found) (46 ∷ ip.front) ip.back (record { rest = ip.front; dot = refl; names = ip.named; few = ip.few }) ip.more);
     }
 
-pub begin_path : (most : ℕ) (r next : Reader) (use_of : PathUse) (b : ℕ) (all : Disjunction) (text : Word) → (b == 46) ≡ true
+pub begin_path : (most : ℕ) (r next : Reader) (use_of : PathUse) (b : ℕ) (all : Disjunction) (text : ByteString) → (b == 46) ≡ true
     → good (at r (mode.Path use_of place.Name [] [])) ≡ good next → Rest most next all text → Rest_of most r (Pathed r.keeps use_of) all (b ∷ text)
 begin_path most r next use_of b all text is e rest =
     as_byte b 46 (λ x. Rest_of most r (Pathed r.keeps use_of) all (x ∷ text)) is
     (via most r.keeps r.frame r.outer (InPath r.keeps use_of place.Name [] []) (Pathed r.keeps use_of) all 46 text (λ found t ip. pathed r.keeps use_of found t ip)
     (land (at r (mode.Path use_of place.Name [] [])) next (λ x. Rest most x all text) e rest))
 
-pub back_path : (most : ℕ) (r next : Reader) (c : call_type.Call) (b : ℕ) (all : Disjunction) (text : Word) → expected most r (wants.Path c) b ≡ good next → Rest most next all text
+pub back_path : (most : ℕ) (r next : Reader) (c : call_type.Call) (b : ℕ) (all : Disjunction) (text : ByteString) → expected most r (wants.Path c) b ≡ good next → Rest most next all text
     → Rest_of most r (Pathed r.keeps (path_of.Called c)) all (b ∷ text)
 back_path most r next c b all text h rest =
     split (b == 46) (good (at r (mode.Path (path_of.Called c) place.Name [] []))) (wrong stop.Refused) (good next) h
     (λ is e. begin_path most r next (path_of.Called c) b all text is e rest) (λ no_ e. bad stop.Refused next e)
 
-pub back_bracket : (most : ℕ) (r next : Reader) (c : call_type.Call) (b : ℕ) (all : Disjunction) (text : Word) → expected most r (wants.Bracket c) b ≡ good next → Rest most next all text
+pub back_bracket : (most : ℕ) (r next : Reader) (c : call_type.Call) (b : ℕ) (all : Disjunction) (text : ByteString) → expected most r (wants.Bracket c) b ≡ good next → Rest most next all text
     → Rest_of most r (Bracket r.keeps c) all (b ∷ text)
 back_bracket most r next c b all text h rest =
     split (b == 40) (good (at r (mode.Expects (wants.Path c)))) (wrong stop.Refused) (good next) h
     (λ is e. open_bracket most r next c b all text is e rest) (λ no_ e. bad stop.Refused next e)
 
-pub back_comma : (most : ℕ) (r next : Reader) (s : Search) (p : List Word) (b : ℕ) (all : Disjunction) (text : Word) → expected most r (wants.Comma s p) b ≡ good next → Rest most next all text
+pub back_comma : (most : ℕ) (r next : Reader) (s : Search) (p : List ByteString) (b : ℕ) (all : Disjunction) (text : ByteString) → expected most r (wants.Comma s p) b ≡ good next → Rest most next all text
     → Rest_of most r (λ found. Then (Is (codes ",")) (Argument r.keeps s p found)) all (b ∷ text)
 back_comma most r next s p b all text h rest =
     split (b == 44) (good (at r (mode.Expects (wants.Argument s p)))) (wrong stop.Refused) (good next) h
@@ -315,7 +315,7 @@ back_comma most r next s p b all text h rest =
     (land (at r (mode.Expects (wants.Argument s p))) next (λ x. Rest most x all text) e rest)))
     (λ no_ e. bad stop.Refused next e)
 
-parted : (p : List Word) (found : Predicate) (t : Word) → InText (text_of.Part p) [] found t → Part p found (34 ∷ t)
+parted : (p : List ByteString) (found : Predicate) (t : ByteString) → InText (text_of.Part p) [] found t → Part p found (34 ∷ t)
 parted p found t it =
     record {
       word = it.word;
@@ -323,7 +323,7 @@ parted p found t it =
           (token_then (IsString it.word) (Close (Contains p it.word) found) (34 ∷ it.front) it.back (record { rest = it.front; opened = refl; held = it.spelled }) it.more);
     }
 
-sought_by : (keeps : Bool) (p : List Word) (found : Predicate) (t : Word) → InMark keeps p found t → Sought keeps p found (114 ∷ t)
+sought_by : (keeps : Bool) (p : List ByteString) (found : Predicate) (t : ByteString) → InMark keeps p found t → Sought keeps p found (114 ∷ t)
 sought_by keeps p found t im =
     let ip = im.more in
     record {
@@ -333,7 +333,7 @@ sought_by keeps p found t im =
           (token_then (IsPatternText ip.front) (Close (sought keeps p ip.front) found) (114 ∷ 39 ∷ (ip.front ++ 39 ∷ [])) ip.back (record { bare = ap not ip.bare; written = refl }) ip.more);
     }
 
-pub back_argument : (most : ℕ) (r next : Reader) (s : Search) (p : List Word) (b : ℕ) (all : Disjunction) (text : Word) → expected most r (wants.Argument s p) b ≡ good next → Rest most next all text
+pub back_argument : (most : ℕ) (r next : Reader) (s : Search) (p : List ByteString) (b : ℕ) (all : Disjunction) (text : ByteString) → expected most r (wants.Argument s p) b ≡ good next → Rest most next all text
     → Rest_of most r (Argument r.keeps s p) all (b ∷ text)
 back_argument most r next search_for.Part p b all text h rest =
     pick (b == 34) r (Some (mode.Text (text_of.Part p) false [])) None (good next) h
@@ -348,7 +348,7 @@ back_argument most r next search_for.Pattern p b all text h rest =
     (land (at r (mode.Mark p)) next (λ x. Rest most x all text) e rest)))
     (λ no_ e. bad stop.Refused next e)
 
-pub back_close : (most : ℕ) (r next : Reader) (q : Predicate) (b : ℕ) (all : Disjunction) (text : Word) → expected most r (wants.Close q) b ≡ good next → Rest most next all text
+pub back_close : (most : ℕ) (r next : Reader) (q : Predicate) (b : ℕ) (all : Disjunction) (text : ByteString) → expected most r (wants.Close q) b ≡ good next → Rest most next all text
     → Rest_of most r (Close q) all (b ∷ text)
 back_close most r next q b all text h rest =
     split (b == 41) (good (stated r q)) (wrong stop.Refused) (good next) h

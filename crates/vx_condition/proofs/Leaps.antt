@@ -2,7 +2,7 @@
 use Rattle.std.proofs.Common.{◌≡◌, ℕ, zero, suc, ◌+◌, ◌-◌, ◌*◌, ◌^◌, ◌<◌, ◌≤◌, Bool, true, false, cond, not, ◌==◌, ◌&&◌, ◌||◌, Option, Some, None, List, [], ◌∷◌, ◌++◌, length, codes, refl, sym, ◌∙◌, ap, subst, append_assoc, arith, nat_lt, nat_le, ltb-true, leb-true, lt-ltb, le-leb, eqb-true, ◌⊎◌, inl, inr, length-append, get_or}
 use Rattle.std.specs.List.{list_all}
 use Rattle.std.proofs.lemmas.Bool.{and_parts, eqb-false}
-use Rattle.vx_value.specs.Texts.{Word}
+use Rattle.vx_value.specs.Texts.{ByteString}
 use Rattle.vx_condition.specs.Grammar.{is_blank, is_digit, escaped}
 use Rattle.vx_condition.specs.Words.{letters_of}
 use Rattle.vx_condition.specs.PathSteps.{path_step, may_end}
@@ -62,9 +62,9 @@ pub data Leap (m : Mode) (b : ℕ) (n : Mode) : Type 0 where
   passes : b < 128 → held_by n ≡ held_by m → NoPattern n → Leap m b n
   adds : held_by n ≡ held_by m ++ b ∷ [] → NoPattern n → Leap m b n
   stands : b < 128 → (e : ℕ) → e < 128 → held_by n ≡ held_by m ++ e ∷ [] → NoPattern n → Leap m b n
-  marks : (p : List Word) → m ≡ mode.Expects (wants.Argument search_for.Pattern p) → b ≡ 114 → n ≡ mode.Mark p → Leap m b n
-  starts : (p : List Word) → m ≡ mode.Mark p → b ≡ 39 → n ≡ mode.Pattern p [] → Leap m b n
-  sought_more : (p : List Word) (held : Word) → m ≡ mode.Pattern p held → (b == 39) ≡ false → n ≡ mode.Pattern p (held ++ b ∷ []) → Leap m b n
+  marks : (p : List ByteString) → m ≡ mode.Expects (wants.Argument search_for.Pattern p) → b ≡ 114 → n ≡ mode.Mark p → Leap m b n
+  starts : (p : List ByteString) → m ≡ mode.Mark p → b ≡ 39 → n ≡ mode.Pattern p [] → Leap m b n
+  sought_more : (p : List ByteString) (held : ByteString) → m ≡ mode.Pattern p held → (b == 39) ≡ false → n ≡ mode.Pattern p (held ++ b ∷ []) → Leap m b n
 
 pub record Leapt (m : Mode) (b : ℕ) (next : Reader) : Type 0 where
   pub leap : Leap m b next.mode
@@ -100,7 +100,7 @@ fell : (a next : Reader) (b : ℕ) → good a ≡ good next → b < 128 → held
 fell a next b e low none plain fit = reach a next (λ x. Fell b x) e (record { low = low; none = none; plain = plain; fit = fit })
 
 -- ---- where something is expected
-fell_operator : (r next : Reader) (p : List Word) (b : ℕ) → at_some r (operator_mode p b) ≡ good next → Fell b next
+fell_operator : (r next : Reader) (p : List ByteString) (b : ℕ) → at_some r (operator_mode p b) ≡ good next → Fell b next
 fell_operator r next p b h =
     pick (b == 61) r (Some (mode.Word fixed.Equals 1 (Wants (wants.Literal p (operator.Is equality.Equal))))) (cond (b == 33) (Some (mode.Word fixed.Differs 1 (Wants (wants.Literal p (operator.Is equality.Different))))) (cond (b == 60) (Some (mode.Angle p Less)) (cond (b == 62) (Some (mode.Angle p Greater)) None))) (good next) h
     (λ is e. fell (at r (mode.Word fixed.Equals 1 (Wants (wants.Literal p (operator.Is equality.Equal))))) next b e (lowed b 61 is (omega arith)) refl tt tt)
@@ -115,17 +115,17 @@ fell_operator r next p b h =
 digit_high : (b : ℕ) → is_digit b ≡ true → b ≤ 57
 digit_high b h = let both = and_parts (nat_le 48 b) (nat_le b 57) h in leb-true b 57 both.1
 
-begun_number : (r next : Reader) (p : List Word) (o : Operator) (b : ℕ) (t : Bool) → (b == 45) ≡ t → begins_number b ≡ true → good (at r (cond t (mode.Minus p o) (mode.Whole p o false (b - 48)))) ≡ good next → Fell b next
+begun_number : (r next : Reader) (p : List ByteString) (o : Operator) (b : ℕ) (t : Bool) → (b == 45) ≡ t → begins_number b ≡ true → good (at r (cond t (mode.Minus p o) (mode.Whole p o false (b - 48)))) ≡ good next → Fell b next
 begun_number r next p o b true is begins h = fell (at r (mode.Minus p o)) next b h (lowed b 45 is (omega arith)) refl tt tt
 begun_number r next p o b false no_ begins h =
     let d : is_digit b ≡ true = ap (λ t. t || is_digit b) (sym no_) ∙ begins in
     let high = digit_high b d in
     fell (at r (mode.Whole p o false (b - 48))) next b h (omega arith) refl tt ((λ e. absurd (cc)), lt-ltb (b - 48) (2 ^ 63) (omega arith))
 
-fell_number : (r next : Reader) (p : List Word) (o : Operator) (b : ℕ) → begins_number b ≡ true → good (at r (number_mode p o b)) ≡ good next → Fell b next
+fell_number : (r next : Reader) (p : List ByteString) (o : Operator) (b : ℕ) → begins_number b ≡ true → good (at r (number_mode p o b)) ≡ good next → Fell b next
 fell_number r next p o b begins h = begun_number r next p o b (b == 45) refl begins h
 
-fell_word : (r next : Reader) (p : List Word) (e : Equality) (b : ℕ) → at_some r (word_mode p e b) ≡ good next → Fell b next
+fell_word : (r next : Reader) (p : List ByteString) (e : Equality) (b : ℕ) → at_some r (word_mode p e b) ≡ good next → Fell b next
 fell_word r next p e b h =
     pick (b == 34) r (Some (mode.Text (text_of.Literal p e) false [])) (cond (b == 116) (Some (mode.Word fixed.True 1 (Done (equal_to p e (literal.Truth true))))) (cond (b == 102) (Some (mode.Word fixed.False 1 (Done (equal_to p e (literal.Truth false))))) (cond (b == 110) (Some (mode.Word fixed.Null 1 (Done (equal_to p e literal.Null)))) None))) (good next) h
     (λ is g. fell (at r (mode.Text (text_of.Literal p e) false [])) next b g (lowed b 34 is (omega arith)) refl tt tt)
@@ -137,7 +137,7 @@ fell_word r next p e b h =
     (λ is g. fell (at r (mode.Word fixed.Null 1 (Done (equal_to p e literal.Null)))) next b g (lowed b 110 is (omega arith)) refl tt tt)
     (λ no4 g. bad stop.Refused next g))))
 
-fell_literal : (r next : Reader) (p : List Word) (o : Operator) (b : ℕ) → at_some r (literal_mode p o b) ≡ good next → Fell b next
+fell_literal : (r next : Reader) (p : List ByteString) (o : Operator) (b : ℕ) → at_some r (literal_mode p o b) ≡ good next → Fell b next
 fell_literal r next p (operator.Is e) b h =
     pick (begins_number b) r (Some (number_mode p (operator.Is e) b)) (word_mode p e b) (good next) h (λ begins g. fell_number r next p (operator.Is e) b begins g) (λ no_ g. fell_word r next p e b g)
 fell_literal r next p (operator.Compared c) b h =
@@ -201,9 +201,9 @@ fell_operand most r next b h =
 -- an argument may be a pattern; else the reader holds nothing
 data Outcome (e : Expected) (b : ℕ) (next : Reader) : Type 0 where
   plain : Fell b next → Outcome e b next
-  marked : (p : List Word) → e ≡ wants.Argument search_for.Pattern p → b ≡ 114 → next.mode ≡ mode.Mark p → Fit next → Outcome e b next
+  marked : (p : List ByteString) → e ≡ wants.Argument search_for.Pattern p → b ≡ 114 → next.mode ≡ mode.Mark p → Fit next → Outcome e b next
 
-came_argument : (most : ℕ) (r next : Reader) (s : Search) (p : List Word) (b : ℕ) → expected most r (wants.Argument s p) b ≡ good next → Outcome (wants.Argument s p) b next
+came_argument : (most : ℕ) (r next : Reader) (s : Search) (p : List ByteString) (b : ℕ) → expected most r (wants.Argument s p) b ≡ good next → Outcome (wants.Argument s p) b next
 came_argument most r next search_for.Part p b h =
     pick (b == 34) r (Some (mode.Text (text_of.Part p) false [])) None (good next) h
     (λ is e. plain (fell (at r (mode.Text (text_of.Part p) false [])) next b e (lowed b 34 is (omega arith)) refl tt tt)) (λ no_ e. bad stop.Refused next e)
@@ -242,12 +242,12 @@ outcome_leap : (e : Expected) (b : ℕ) (next : Reader) → Outcome e b next →
 outcome_leap e b next (plain f) = dropped (mode.Expects e) b next f
 outcome_leap e b next (marked p is r114 n fit) = record { leap = marks p (ap mode.Expects is) r114 n; fit = fit }
 
-outcome_fell : (e : Expected) (b : ℕ) (next : Reader) → ((p : List Word) → e ≡ wants.Argument search_for.Pattern p → ⊥) → Outcome e b next → Fell b next
+outcome_fell : (e : Expected) (b : ℕ) (next : Reader) → ((p : List ByteString) → e ≡ wants.Argument search_for.Pattern p → ⊥) → Outcome e b next → Fell b next
 outcome_fell e b next never (plain f) = f
 outcome_fell e b next never (marked p is r114 n fit) = absurd (never p is)
 
 -- ---- inside a token
-all_low : (l : Word) → list_all (λ x. nat_lt x 128) l ≡ true → (i : ℕ) → get_or l i 0 < 128
+all_low : (l : ByteString) → list_all (λ x. nat_lt x 128) l ≡ true → (i : ℕ) → get_or l i 0 < 128
 all_low [] h i = omega arith
 all_low (x ∷ l) h zero = ltb-true x 128 (and_parts (nat_lt x 128) (list_all (λ y. nat_lt y 128) l) h).0
 all_low (x ∷ l) h (suc i) = all_low l (and_parts (nat_lt x 128) (list_all (λ y. nat_lt y 128) l) h).1 i
@@ -298,17 +298,17 @@ passes_low place.Quoted q none b e =
 passes_low place.Escaped q none b e = split ((b == 34) || (b == 92)) (step_of.Adds place.Quoted) step_of.Refused (step_of.Passes q) e (λ is x. absurd (cc)) (λ no_ x. absurd (cc))
 passes_low place.Closed q none b e = split (b == 46) step_of.Ends step_of.Refused (step_of.Passes q) e (λ is x. absurd (cc)) (λ no_ x. absurd (cc))
 
-no_argument : (use_of : PathUse) (names p : List Word) → behind_path use_of names ≡ wants.Argument search_for.Pattern p → ⊥
+no_argument : (use_of : PathUse) (names p : List ByteString) → behind_path use_of names ≡ wants.Argument search_for.Pattern p → ⊥
 no_argument path_of.Compared names p e = cc
 no_argument (path_of.Called call.Exists) names p e = cc
 no_argument (path_of.Called (call.Has s)) names p e = cc
 
-fit_behind : (f : Frame) (use_of : PathUse) (p : List Word) → FitExpected f (behind_path use_of p)
+fit_behind : (f : Frame) (use_of : PathUse) (p : List ByteString) → FitExpected f (behind_path use_of p)
 fit_behind f path_of.Compared p = tt
 fit_behind f (path_of.Called call.Exists) p = tt
 fit_behind f (path_of.Called (call.Has s)) p = tt
 
-leapt_path : (most : ℕ) (r next : Reader) (use_of : PathUse) (p : PathPlace) (name : Word) (names : List Word) (b : ℕ) → length names ≤ 30 → (s : PathStep) → path_step p (length name == 0) b ≡ s
+leapt_path : (most : ℕ) (r next : Reader) (use_of : PathUse) (p : PathPlace) (name : ByteString) (names : List ByteString) (b : ℕ) → length names ≤ 30 → (s : PathStep) → path_step p (length name == 0) b ≡ s
     → in_path most r use_of p name names b s ≡ good next → Leapt (mode.Path use_of p name names) b next
 leapt_path most r next use_of p name names b few (step_of.Adds q) e h =
     reach (at r (mode.Path use_of q (name ++ b ∷ []) names)) next (λ x. Leapt (mode.Path use_of p name names) b x) h (record { leap = adds refl tt; fit = few })
@@ -348,17 +348,17 @@ escape_low b e h =
     either (inl x) = lowed b 34 x (omega arith)
     either (inr x) = lowed b 92 x (omega arith)
 
-leapt_escape : (r next : Reader) (use_of : TextUse) (held : Word) (b : ℕ) (o : Option ℕ) → escaped b ≡ o → with_escape r use_of held o ≡ good next → Leapt (mode.Text use_of true held) b next
+leapt_escape : (r next : Reader) (use_of : TextUse) (held : ByteString) (b : ℕ) (o : Option ℕ) → escaped b ≡ o → with_escape r use_of held o ≡ good next → Leapt (mode.Text use_of true held) b next
 leapt_escape r next use_of held b None e h = bad stop.Refused next h
 leapt_escape r next use_of held b (Some x) e h =
     let s = escape_low b x e in
     reach (at r (mode.Text use_of false (held ++ x ∷ []))) next (λ y. Leapt (mode.Text use_of true held) b y) h (record { leap = stands s.letter x s.byte refl tt; fit = tt })
 
-fell_behind_text : (r next : Reader) (use_of : TextUse) (held : Word) (b : ℕ) → b < 128 → good (behind_text r use_of held) ≡ good next → Fell b next
+fell_behind_text : (r next : Reader) (use_of : TextUse) (held : ByteString) (b : ℕ) → b < 128 → good (behind_text r use_of held) ≡ good next → Fell b next
 fell_behind_text r next (text_of.Literal p e) held b low h = fell (stated r (equal_to p e (literal.Words held))) next b h low refl tt refl
 fell_behind_text r next (text_of.Part p) held b low h = fell (at r (mode.Expects (wants.Close (Contains p held)))) next b h low refl tt tt
 
-leapt_text : (r next : Reader) (use_of : TextUse) (held : Word) (b : ℕ) → in_text r use_of false held b ≡ good next → Leapt (mode.Text use_of false held) b next
+leapt_text : (r next : Reader) (use_of : TextUse) (held : ByteString) (b : ℕ) → in_text r use_of false held b ≡ good next → Leapt (mode.Text use_of false held) b next
 leapt_text r next use_of held b h =
     split (b == 34) (good (behind_text r use_of held)) (cond (b == 92) (good (at r (mode.Text use_of true held))) (good (at r (mode.Text use_of false (held ++ b ∷ []))))) (good next) h
     (λ is e. dropped (mode.Text use_of false held) b next (fell_behind_text r next use_of held b (lowed b 34 is (omega arith)) e))
@@ -366,19 +366,19 @@ leapt_text r next use_of held b h =
     (λ is e. reach (at r (mode.Text use_of true held)) next (λ y. Leapt (mode.Text use_of false held) b y) e (record { leap = passes (lowed b 92 is (omega arith)) refl tt; fit = tt }))
     (λ no2 e. reach (at r (mode.Text use_of false (held ++ b ∷ []))) next (λ y. Leapt (mode.Text use_of false held) b y) e (record { leap = adds refl tt; fit = tt })))
 
-leapt_mark : (r next : Reader) (p : List Word) (b : ℕ) → cond (b == 39) (good (at r (mode.Pattern p []))) (wrong stop.Refused) ≡ good next → Leapt (mode.Mark p) b next
+leapt_mark : (r next : Reader) (p : List ByteString) (b : ℕ) → cond (b == 39) (good (at r (mode.Pattern p []))) (wrong stop.Refused) ≡ good next → Leapt (mode.Mark p) b next
 leapt_mark r next p b h =
     split (b == 39) (good (at r (mode.Pattern p []))) (wrong stop.Refused) (good next) h
     (λ is e. reach (at r (mode.Pattern p [])) next (λ y. Leapt (mode.Mark p) b y) e (record { leap = starts p refl (eqb-true b 39 is) refl; fit = tt }))
     (λ no_ e. bad stop.Refused next e)
 
-leapt_pattern : (r next : Reader) (p : List Word) (held : Word) (b : ℕ) → in_pattern r p held b ≡ good next → Leapt (mode.Pattern p held) b next
+leapt_pattern : (r next : Reader) (p : List ByteString) (held : ByteString) (b : ℕ) → in_pattern r p held b ≡ good next → Leapt (mode.Pattern p held) b next
 leapt_pattern r next p held b h =
     split (b == 39) (good (at r (mode.Expects (wants.Close (sought r.keeps p held))))) (good (at r (mode.Pattern p (held ++ b ∷ [])))) (good next) h
     (λ is e. dropped (mode.Pattern p held) b next (fell (at r (mode.Expects (wants.Close (sought r.keeps p held)))) next b e (lowed b 39 is (omega arith)) refl tt tt))
     (λ no_ e. reach (at r (mode.Pattern p (held ++ b ∷ []))) next (λ y. Leapt (mode.Pattern p held) b y) e (record { leap = sought_more p held refl no_ refl; fit = tt }))
 
-fell_minus : (most : ℕ) (r next : Reader) (p : List Word) (o : Operator) (b : ℕ) → moved most r (mode.Minus p o) b ≡ good next → Fell b next
+fell_minus : (most : ℕ) (r next : Reader) (p : List ByteString) (o : Operator) (b : ℕ) → moved most r (mode.Minus p o) b ≡ good next → Fell b next
 fell_minus most r next p o b h =
     split (nat_le 49 b && nat_le b 57) (good (at r (mode.Whole p o true (b - 48)))) (wrong stop.Refused) (good next) h
     (λ is e.
@@ -399,7 +399,7 @@ grown size b h = positive (size == 0) refl h
     positive true e g = absurd (cc)
     positive false e g = some_more size b (λ z. eqb-false size 0 e z)
 
-fell_whole : (r next : Reader) (p : List Word) (o : Operator) (negative : Bool) (size b : ℕ) → in_whole r p o negative size b ≡ good next → Fell b next
+fell_whole : (r next : Reader) (p : List ByteString) (o : Operator) (negative : Bool) (size b : ℕ) → in_whole r p o negative size b ≡ good next → Fell b next
 fell_whole r next p o negative size b h =
     split (is_digit b) (cond (not (size == 0) && fits negative (10 * size + (b - 48))) (good (at r (mode.Whole p o negative (10 * size + (b - 48))))) (wrong stop.Refused)) (behind_operand (stated r (with_number p o (signed negative size))) b) (good next) h
     (λ d g. split (not (size == 0) && fits negative (10 * size + (b - 48))) (good (at r (mode.Whole p o negative (10 * size + (b - 48))))) (wrong stop.Refused) (good next) g
@@ -410,10 +410,10 @@ fell_whole r next p o negative size b h =
     (λ no_ e. bad stop.Refused next e))
     (λ no_ g. fell_behind_operand (stated r (with_number p o (signed negative size))) next b refl g)
 
-no_pattern_literal : (q : List Word) (o : Operator) (p : List Word) → wants.Literal q o ≡ wants.Argument search_for.Pattern p → ⊥
+no_pattern_literal : (q : List ByteString) (o : Operator) (p : List ByteString) → wants.Literal q o ≡ wants.Argument search_for.Pattern p → ⊥
 no_pattern_literal q o p e = cc
 
-fell_angle : (most : ℕ) (r next : Reader) (p : List Word) (c : Comparison) (b : ℕ) → moved most r (mode.Angle p c) b ≡ good next → Fell b next
+fell_angle : (most : ℕ) (r next : Reader) (p : List ByteString) (c : Comparison) (b : ℕ) → moved most r (mode.Angle p c) b ≡ good next → Fell b next
 fell_angle most r next p c b h =
     split (b == 61) (good (at r (mode.Expects (wants.Literal p (operator.Compared (or_equal c)))))) (behind_blanks most r (wants.Literal p (operator.Compared c)) b) (good next) h
     (λ is e. fell (at r (mode.Expects (wants.Literal p (operator.Compared (or_equal c))))) next b e (lowed b 61 is (omega arith)) refl tt tt)
@@ -445,7 +445,7 @@ one_ascii e low = IsUtf8-from_ascii (e ∷ []) below
     below zero = low
     below (suc i) = omega arith
 
-leap_utf8 : (m n : Mode) (b : ℕ) (rest : Word) → Leap m b n → IsUtf8 (held_by m ++ b ∷ rest) → IsUtf8 (held_by n ++ rest)
+leap_utf8 : (m n : Mode) (b : ℕ) (rest : ByteString) → Leap m b n → IsUtf8 (held_by m ++ b ∷ rest) → IsUtf8 (held_by n ++ rest)
 leap_utf8 m n b rest (drops low none bare) u = subst (λ w. IsUtf8 (w ++ rest)) (sym none) (utf8-right (held_by m) rest b low u)
 leap_utf8 m n b rest (passes low same bare) u =
     subst (λ w. IsUtf8 (w ++ rest)) (sym same) (IsUtf8-append (held_by m) rest (utf8-left (held_by m) rest b low u) (utf8-right (held_by m) rest b low u))
@@ -459,5 +459,5 @@ leap_utf8 m n b rest (sought_more p held there no_ to) u =
     subst (λ k. IsUtf8 (held_by k ++ rest)) (sym to)
     (subst IsUtf8 (sym (append_assoc held (b ∷ []) rest)) (subst (λ k. IsUtf8 (held_by k ++ b ∷ rest)) there u))
 
-pub step_utf8 : (most : ℕ) (r next : Reader) (b : ℕ) (rest : Word) → Fit r → step most r b ≡ good next → IsUtf8 (held_by r.mode ++ b ∷ rest) → IsUtf8 (held_by next.mode ++ rest)
+pub step_utf8 : (most : ℕ) (r next : Reader) (b : ℕ) (rest : ByteString) → Fit r → step most r b ≡ good next → IsUtf8 (held_by r.mode ++ b ∷ rest) → IsUtf8 (held_by next.mode ++ rest)
 step_utf8 most r next b rest fit h u = let l = leapt most r next b fit h in leap_utf8 r.mode next.mode b rest l.leap u

@@ -1,6 +1,6 @@
 -- How the number of levels that may be opened tells on a reader, and what a reader never changes.
 use Rattle.std.proofs.Common.{◌≡◌, ℕ, suc, ◌+◌, ◌-◌, ◌*◌, ◌≤◌, Bool, true, false, cond, not, ◌==◌, ◌&&◌, Option, Some, None, Result, Ok, Err, List, [], ◌∷◌, ◌++◌, length, refl, sym, ◌∙◌, ap, subst, arith, nat_lt, nat_le, ltb-true, lt-ltb, eqb-true, ◌⊎◌, inl, inr, get_or}
-use Rattle.vx_value.specs.Texts.{Word}
+use Rattle.vx_value.specs.Texts.{ByteString}
 use Rattle.vx_condition.specs.Grammar.{is_blank, is_digit, escaped}
 use Rattle.vx_condition.specs.Words.{letters_of}
 use Rattle.vx_condition.specs.PathSteps.{path_step, may_end}
@@ -68,7 +68,7 @@ under_first : (t : Bool) (x z y v : Result Reader Stop) → (x ≡ v → z ≡ v
 under_first true x z y v f h = f h
 under_first false x z y v f h = h
 
-path_more : (m n : ℕ) (r : Reader) (use_of : PathUse) (p : PathPlace) (name : Word) (names : List Word) (b : ℕ) (s : PathStep) (v : Result Reader Stop) → m ≤ n → (v ≡ wrong stop.Deep → ⊥)
+path_more : (m n : ℕ) (r : Reader) (use_of : PathUse) (p : PathPlace) (name : ByteString) (names : List ByteString) (b : ℕ) (s : PathStep) (v : Result Reader Stop) → m ≤ n → (v ≡ wrong stop.Deep → ⊥)
     → in_path m r use_of p name names b s ≡ v → in_path n r use_of p name names b s ≡ v
 path_more m n r use_of p name names b (step_of.Adds q) v le f h = h
 path_more m n r use_of p name names b (step_of.Passes q) v le f h = h
@@ -156,16 +156,16 @@ keeps_letter : (r : Reader) (w : FixedWord) (read : ℕ) (behind : Behind) (t : 
 keeps_letter r w read behind true = keeps_arrived r behind
 keeps_letter r w read behind false = refl
 
-keeps_behind_text : (r : Reader) (use_of : TextUse) (held : Word) → (behind_text r use_of held).keeps ≡ r.keeps
+keeps_behind_text : (r : Reader) (use_of : TextUse) (held : ByteString) → (behind_text r use_of held).keeps ≡ r.keeps
 keeps_behind_text r (text_of.Literal p e) held = refl
 keeps_behind_text r (text_of.Part p) held = refl
 
-no_operand : (use_of : PathUse) (names : List Word) → behind_path use_of names ≡ wants.Operand → ⊥
+no_operand : (use_of : PathUse) (names : List ByteString) → behind_path use_of names ≡ wants.Operand → ⊥
 no_operand path_of.Compared names e = cc
 no_operand (path_of.Called call.Exists) names e = cc
 no_operand (path_of.Called (call.Has s)) names e = cc
 
-tame_path : (most : ℕ) (r : Reader) (D : Type 0) (use_of : PathUse) (p : PathPlace) (name : Word) (names : List Word) (b : ℕ) (s : PathStep) → Tame r.keeps D (in_path most r use_of p name names b s)
+tame_path : (most : ℕ) (r : Reader) (D : Type 0) (use_of : PathUse) (p : PathPlace) (name : ByteString) (names : List ByteString) (b : ℕ) (s : PathStep) → Tame r.keeps D (in_path most r use_of p name names b s)
 tame_path most r D use_of p name names b (step_of.Adds q) = refl
 tame_path most r D use_of p name names b (step_of.Passes q) = refl
 tame_path most r D use_of p name names b step_of.Ends = tame_cond r.keeps D (nat_lt (length names) 30) (good (at r (mode.Path use_of place.Name [] (names ++ name ∷ [])))) (wrong stop.Refused) refl tt
@@ -173,7 +173,7 @@ tame_path most r D use_of p name names b step_of.Refused =
     tame_cond r.keeps D (may_end p && nat_lt (length names) 31 && nat_lt b 128) (behind_blanks most r (behind_path use_of (names ++ name ∷ [])) b) (wrong stop.Refused)
     (tame_blanks most r D (behind_path use_of (names ++ name ∷ [])) b (λ e. absurd (no_operand use_of (names ++ name ∷ []) e))) tt
 
-tame_escape : (r : Reader) (D : Type 0) (use_of : TextUse) (held : Word) (o : Option ℕ) → Tame r.keeps D (with_escape r use_of held o)
+tame_escape : (r : Reader) (D : Type 0) (use_of : TextUse) (held : ByteString) (o : Option ℕ) → Tame r.keeps D (with_escape r use_of held o)
 tame_escape r D use_of held None = tt
 tame_escape r D use_of held (Some e) = refl
 

@@ -2,7 +2,7 @@
 use Rattle.std.proofs.Common.{◌≡◌, ℕ, suc, ◌+◌, ◌-◌, ◌*◌, ◌^◌, ◌<◌, ◌≤◌, Bool, true, false, cond, not, ◌==◌, ◌&&◌, ◌||◌, Option, Some, None, Result, Ok, Err, ℤ, pos, negsuc, List, [], ◌∷◌, ◌++◌, refl, sym, ◌∙◌, ap, arith, nat_le, lt-ltb, ltb-true, leb-true, le-leb, ne_eqb}
 use Rattle.std.specs.List.{list_all}
 use Rattle.std.proofs.lemmas.Bool.{and_parts, and_from, eqb-false}
-use Rattle.vx_value.specs.Texts.{Word}
+use Rattle.vx_value.specs.Texts.{ByteString}
 use Rattle.vx_condition.specs.Grammar.{is_blank, is_digit, begins_well, number_behind, IsNumber, IsWhole}
 use Rattle.vx_condition.specs.Moves.{at, stated, with_number, signed, fits, begins_number, number_mode, literal_mode, word_mode, behind_operand, at_some}
 use Rattle.vx_condition.specs.Runs.{go_on, run, out, settled}
@@ -16,7 +16,7 @@ use Rattle.vx_condition.specs.declared.stop.Stop.{Stop}
 use Rattle.vx_condition.specs.declared.stop.Stop.TheVariants as stop
 use Rattle.vx_condition.proofs.Runs.{chosen, other}
 
-pub grows : (n : ℕ) (digits : Word) → n ≤ number_behind n digits
+pub grows : (n : ℕ) (digits : ByteString) → n ≤ number_behind n digits
 grows n [] = omega arith
 grows n (b ∷ digits) = omega (arith, grows (10 * n + (b - 48)) digits)
 
@@ -28,7 +28,7 @@ not_zero : (n : ℕ) → 0 < n → not (n == 0) ≡ true
 not_zero n h = ap not (ne_eqb n 0 (λ e. omega arith))
 
 -- digits behind a size that isn't 0
-over_digits : (most : ℕ) (r : Reader) (p : List Word) (o : Operator) (negative : Bool) (size : ℕ) (digits more : Word) → list_all is_digit digits ≡ true → 0 < size
+over_digits : (most : ℕ) (r : Reader) (p : List ByteString) (o : Operator) (negative : Bool) (size : ℕ) (digits more : ByteString) → list_all is_digit digits ≡ true → 0 < size
     → fits negative (number_behind size digits) ≡ true
     → run most (at r (mode.Whole p o negative size)) (digits ++ more) ≡ run most (at r (mode.Whole p o negative (number_behind size digits))) more
 over_digits most r p o negative size [] more h some fit = refl
@@ -43,7 +43,7 @@ over_digits most r p o negative size (b ∷ digits) more h some fit =
     ∙ over_digits most r p o negative (10 * size + (b - 48)) digits more both.1 (omega arith) fit
 
 -- whether a text may follow a number
-abbrev pub may_follow : Word → Bool
+abbrev pub may_follow : ByteString → Bool
 may_follow [] = true
 may_follow (c ∷ more) = not (is_digit c)
 
@@ -52,7 +52,7 @@ not_so true h = absurd (cc)
 not_so false h = refl
 
 -- behind its last digit
-behind_digits : (most : ℕ) (r : Reader) (p : List Word) (o : Operator) (negative : Bool) (size : ℕ) (more : Word) → may_follow more ≡ true
+behind_digits : (most : ℕ) (r : Reader) (p : List ByteString) (o : Operator) (negative : Bool) (size : ℕ) (more : ByteString) → may_follow more ≡ true
     → out most (at r (mode.Whole p o negative size)) more ≡ out most (stated r (with_number p o (signed negative size))) more
 behind_digits most r p o negative size [] h = refl
 behind_digits most r p o negative size (c ∷ more) h =
@@ -72,7 +72,7 @@ some_mode : (r : Reader) (t : Bool) (m : Mode) (o : Option Mode) (f : Reader →
 some_mode r true m o f h = refl
 some_mode r false m o f h = absurd (cc)
 
-begun_so : (most : ℕ) (r : Reader) (p : List Word) (o : Operator) (b : ℕ) (f : Reader → Result Reader Stop) → begins_number b ≡ true
+begun_so : (most : ℕ) (r : Reader) (p : List ByteString) (o : Operator) (b : ℕ) (f : Reader → Result Reader Stop) → begins_number b ≡ true
     → go_on (at_some r (literal_mode p o b)) f ≡ f (at r (number_mode p o b))
 begun_so most r p (Is e) b f h = some_mode r (begins_number b) (number_mode p (Is e) b) (word_mode p e b) f h
 begun_so most r p (Compared c) b f h = some_mode r (begins_number b) (number_mode p (Compared c) b) None f h
@@ -86,7 +86,7 @@ high_byte b h = all_false (b == 9) (b == 10) (b == 13) (b == 32) (ne_eqb b 9 (λ
     all_false false false true z a b c d = absurd (cc)
     all_false false false false z a b c d = d
 
-first_byte : (most : ℕ) (r : Reader) (p : List Word) (o : Operator) (b : ℕ) (more : Word) → begins_number b ≡ true → 40 ≤ b
+first_byte : (most : ℕ) (r : Reader) (p : List ByteString) (o : Operator) (b : ℕ) (more : ByteString) → begins_number b ≡ true → 40 ≤ b
     → run most (at r (mode.Expects (wants.Literal p o))) (b ∷ more) ≡ run most (at r (number_mode p o b)) more
 first_byte most r p o b more h high =
     other (is_blank b) (Ok (at r (mode.Expects (wants.Literal p o)))) (at_some (at r (mode.Expects (wants.Literal p o))) (literal_mode p o b)) (λ n. run most n more) (high_byte b high)
@@ -95,7 +95,7 @@ first_byte most r p o b more h high =
 digit_bounds : (b : ℕ) → is_digit b ≡ true → (48 ≤ b) × (b ≤ 57)
 digit_bounds b h = let both = and_parts (nat_le 48 b) (nat_le b 57) h in (leb-true 48 b both.0, leb-true b 57 both.1)
 
-plain_number : (p : List Word) (o : Operator) (b : ℕ) → is_digit b ≡ true → number_mode p o b ≡ mode.Whole p o false (b - 48)
+plain_number : (p : List ByteString) (o : Operator) (b : ℕ) → is_digit b ≡ true → number_mode p o b ≡ mode.Whole p o false (b - 48)
 plain_number p o b h = let low = digit_bounds b h in choose (b == 45) (ne_eqb b 45 (λ e. omega (arith, low.0)))
   where
     choose : (t : Bool) → t ≡ false → cond t (mode.Minus p o) (mode.Whole p o false (b - 48)) ≡ mode.Whole p o false (b - 48)
@@ -103,7 +103,7 @@ plain_number p o b h = let low = digit_bounds b h in choose (b == 45) (ne_eqb b 
     choose false e = refl
 
 -- a number without a sign
-over_plain : (most : ℕ) (r : Reader) (p : List Word) (o : Operator) (n : ℕ) (text more : Word) → IsNumber n text → n < 2 ^ 63 → may_follow more ≡ true
+over_plain : (most : ℕ) (r : Reader) (p : List ByteString) (o : Operator) (n : ℕ) (text more : ByteString) → IsNumber n text → n < 2 ^ 63 → may_follow more ≡ true
     → out most (at r (mode.Expects (wants.Literal p o))) (text ++ more) ≡ out most (stated r (with_number p o (pos n))) more
 over_plain most r p o n [] more is small h = absurd (cc (is.plain))
 over_plain most r p o n (b ∷ []) more is small h =
@@ -125,7 +125,7 @@ over_plain most r p o n (b ∷ c ∷ digits) more is small h =
     ∙ ap (λ k. out most (stated r (with_number p o (pos k))) more) value
 
 -- a number behind a `-`
-over_minus : (most : ℕ) (r : Reader) (p : List Word) (o : Operator) (n : ℕ) (text more : Word) → IsNumber (suc n) text → n < 2 ^ 63 → may_follow more ≡ true
+over_minus : (most : ℕ) (r : Reader) (p : List ByteString) (o : Operator) (n : ℕ) (text more : ByteString) → IsNumber (suc n) text → n < 2 ^ 63 → may_follow more ≡ true
     → out most (at r (mode.Minus p o)) (text ++ more) ≡ out most (stated r (with_number p o (negsuc n))) more
 over_minus most r p o n [] more is small h = absurd (cc (is.plain))
 over_minus most r p o n (b ∷ digits) more is small h =
@@ -141,11 +141,11 @@ over_minus most r p o n (b ∷ digits) more is small h =
     ∙ behind_digits most r p o true (number_behind (b - 48) digits) more h
     ∙ ap (λ k. out most (stated r (with_number p o (negsuc k))) more) less
   where
-    begun : (ds : Word) → is_digit b ≡ true → begins_well (b ∷ ds) ≡ true → number_behind (b - 48) ds ≡ suc n → 48 < b
+    begun : (ds : ByteString) → is_digit b ≡ true → begins_well (b ∷ ds) ≡ true → number_behind (b - 48) ds ≡ suc n → 48 < b
     begun [] d w v = omega (arith, v)
     begun (c ∷ ds) d w v = omega (arith, (digit_bounds b d).0, λ (e : b ≡ 48). eqb-false b 48 (not_so (b == 48) w) e)
 
-pub over_whole : (most : ℕ) (r : Reader) (p : List Word) (o : Operator) (z : ℤ) (text more : Word) → IsWhole z text → may_follow more ≡ true
+pub over_whole : (most : ℕ) (r : Reader) (p : List ByteString) (o : Operator) (z : ℤ) (text more : ByteString) → IsWhole z text → may_follow more ≡ true
     → out most (at r (mode.Expects (wants.Literal p o))) (text ++ more) ≡ out most (stated r (with_number p o z)) more
 over_whole most r p o (pos n) text more is h = over_plain most r p o n text more is.0 is.1 h
 over_whole most r p o (negsuc n) text more is h =

@@ -2,7 +2,7 @@
 use Rattle.std.proofs.Common.{◌≡◌, ℕ, ◌<◌, ◌≤◌, Bool, true, false, cond, not, ◌==◌, ◌&&◌, ◌||◌, Option, Some, None, Ok, Err, List, [], ◌∷◌, ◌++◌, length, refl, sym, ◌∙◌, ap, append_assoc, arith, nat_lt, lt-ltb, ne_eqb, length-append}
 use Rattle.std.specs.Prelude.{option_map}
 use Rattle.std.proofs.lemmas.Bool.{and_parts, and_from}
-use Rattle.vx_value.specs.Texts.{Word, is_empty}
+use Rattle.vx_value.specs.Texts.{ByteString, is_empty}
 use Rattle.vx_value.specs.Paths.{begins_name, goes_on, move_of, ends_path, carry, names_from}
 use Rattle.vx_value.specs.declared.path_mode.PathMode.{PathMode}
 use Rattle.vx_value.specs.declared.path_mode.PathMode.TheVariants as of_value
@@ -53,7 +53,7 @@ same_move Quoted none b =
 same_move Escaped none b = sym (move_for-cond ((b == 34) || (b == 92)) (Adds Quoted) Refused)
 same_move Closed none b = sym (move_for-cond (b == 46) Ends Refused)
 
-pub no_bytes : (name : Word) → is_empty name ≡ (length name == 0)
+pub no_bytes : (name : ByteString) → is_empty name ≡ (length name == 0)
 no_bytes [] = refl
 no_bytes (b ∷ name) = sym (ne_eqb (length (b ∷ name)) 0 (λ e. omega arith))
 
@@ -100,28 +100,28 @@ refused_at Quoted none b s h = absurd (cc)
 refused_at Escaped none b s h = absurd (cc)
 refused_at Closed none b s h = cond_false (b == 46) Ends Refused s.undotted
 
-record Ended (p : PathPlace) (name : Word) (found : List Word) : Type 0 where
+record Ended (p : PathPlace) (name : ByteString) (found : List ByteString) : Type 0 where
   may : may_end p ≡ true
   names : name ∷ [] ≡ found
 
-ended : (p : PathPlace) (name : Word) (found : List Word) → names_from (mode_of p) name [] ≡ Some found → Ended p name found
+ended : (p : PathPlace) (name : ByteString) (found : List ByteString) → names_from (mode_of p) name [] ≡ Some found → Ended p name found
 ended Name name found h = absurd (cc)
 ended Bare name found h = record { may = refl; names = cc }
 ended Quoted name found h = absurd (cc)
 ended Escaped name found h = absurd (cc)
 ended Closed name found h = record { may = refl; names = cc }
 
-record Mapped (name : Word) (o : Option (List Word)) (found : List Word) : Type 0 where
-  rest : List Word
+record Mapped (name : ByteString) (o : Option (List ByteString)) (found : List ByteString) : Type 0 where
+  rest : List ByteString
   is_rest : o ≡ Some rest
   whole : name ∷ rest ≡ found
 
-mapped : (name : Word) (o : Option (List Word)) (found : List Word) → option_map (λ names. name ∷ names) o ≡ Some found → Mapped name o found
+mapped : (name : ByteString) (o : Option (List ByteString)) (found : List ByteString) → option_map (λ names. name ∷ names) o ≡ Some found → Mapped name o found
 mapped name None found h = absurd (cc)
 mapped name (Some rest) found h = record { rest = rest; is_rest = refl; whole = cc }
 
 -- a path has some name
-some_names : (m : PathMode) (name text : Word) (found : List Word) → names_from m name text ≡ Some found → 1 ≤ length found
+some_names : (m : PathMode) (name text : ByteString) (found : List ByteString) → names_from m name text ≡ Some found → 1 ≤ length found
 some_names m name [] found h = last (ends_path m) h
   where
     last : (t : Bool) → cond t (Some (name ∷ [])) None ≡ Some found → 1 ≤ length found
@@ -129,7 +129,7 @@ some_names m name [] found h = last (ends_path m) h
     last false e = absurd (cc)
 some_names m name (b ∷ text) found h = by_move (move_of m (is_empty name) b) (λ n w g. some_names n w text g) h
   where
-    by_move : (v : PathMove) → ((n : PathMode) (w : Word) (g : List Word) → names_from n w text ≡ Some g → 1 ≤ length g)
+    by_move : (v : PathMove) → ((n : PathMode) (w : ByteString) (g : List ByteString) → names_from n w text ≡ Some g → 1 ≤ length g)
         → carry v name b (λ n w. names_from n w text) ≡ Some found → 1 ≤ length found
     by_move move.Refused ih e = absurd (cc)
     by_move (move.Adds n) ih e = ih n (name ++ b ∷ []) found e
@@ -138,13 +138,13 @@ some_names m name (b ∷ text) found h = by_move (move_of m (is_empty name) b) (
         let parts = mapped name (names_from of_value.Name [] text) found e in
         omega (arith, ap length parts.whole)
 
-abbrev Goes : ℕ → Reader → PathUse → Word → ℕ → Word → Type 0
+abbrev Goes : ℕ → Reader → PathUse → ByteString → ℕ → ByteString → Type 0
 Goes most r use_of text c more =
-    (p : PathPlace) (name : Word) (names found : List Word) → names_from (mode_of p) name text ≡ Some found → length (names ++ found) ≤ 31
+    (p : PathPlace) (name : ByteString) (names found : List ByteString) → names_from (mode_of p) name text ≡ Some found → length (names ++ found) ≤ 31
     → run most (at r (mode.Path use_of p name names)) (text ++ (c ∷ more)) ≡ run most (at r (mode.Expects (behind_path use_of (names ++ found)))) (c ∷ more)
 
 -- a path, before a byte that ends it
-pub over_path : (most : ℕ) (r : Reader) (use_of : PathUse) (text : Word) (c : ℕ) (more : Word) → ends_a_path c ≡ true → Goes most r use_of text c more
+pub over_path : (most : ℕ) (r : Reader) (use_of : PathUse) (text : ByteString) (c : ℕ) (more : ByteString) → ends_a_path c ≡ true → Goes most r use_of text c more
 over_path most r use_of [] c more stops p name names found h few =
     let s = stopper c stops in
     let e = ended p name found h in

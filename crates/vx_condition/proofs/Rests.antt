@@ -1,7 +1,7 @@
 -- What a text has to go on with at each place of a reader, to be a condition.
 use Rattle.std.proofs.Common.{◌≡◌, ℕ, suc, ◌-◌, ◌^◌, ◌<◌, ◌≤◌, Bool, true, false, ◌==◌, Some, ℤ, negsuc, List, [], ◌∷◌, ◌++◌, length, drop, codes, ◌⊎◌}
 use Rattle.std.specs.List.{list_all, list_any}
-use Rattle.vx_value.specs.Texts.{Word}
+use Rattle.vx_value.specs.Texts.{ByteString}
 use Rattle.vx_value.specs.Paths.{names_from}
 use Rattle.vx_condition.specs.Trees as tree
 use Rattle.vx_condition.specs.Trees.{Term, bracketed, Conjunction, no_term, term, Disjunction, no_branch, branch, disjunction_of}
@@ -40,9 +40,9 @@ use Rattle.vx_condition.specs.declared.reader.Reader.{Reader}
 use Rattle.vx_condition.proofs.PathRuns.{mode_of}
 
 -- any blanks, and then a text
-pub record Blanks (More : Word → Type 0) (text : Word) : Type 0 where
-  pub blanks : Word
-  pub back : Word
+pub record Blanks (More : ByteString → Type 0) (text : ByteString) : Type 0 where
+  pub blanks : ByteString
+  pub back : ByteString
   pub blank : list_all is_blank blanks ≡ true
   pub more : More back
   pub whole : text ≡ blanks ++ back
@@ -50,68 +50,68 @@ pub record Blanks (More : Word → Type 0) (text : Word) : Type 0 where
 -- ---- the rest of a predicate
 
 -- the bracket that closes a call
-pub record Close (q found : Predicate) (text : Word) : Type 0 where
+pub record Close (q found : Predicate) (text : ByteString) : Type 0 where
   pub same : found ≡ q
   pub written : text ≡ codes ")"
 
 -- what is looked for, and the closing bracket
-pub record Part (p : List Word) (found : Predicate) (text : Word) : Type 0 where
-  pub word : Word
+pub record Part (p : List ByteString) (found : Predicate) (text : ByteString) : Type 0 where
+  pub word : ByteString
   pub rest : Then (IsString word) (Close (Contains p word) found) text
 
-pub record Sought (keeps : Bool) (p : List Word) (found : Predicate) (text : Word) : Type 0 where
-  pub word : Word
+pub record Sought (keeps : Bool) (p : List ByteString) (found : Predicate) (text : ByteString) : Type 0 where
+  pub word : ByteString
   pub rest : Then (IsPatternText word) (Close (sought keeps p word) found) text
 
-abbrev pub Argument : Bool → Search → List Word → Predicate → Word → Type 0
+abbrev pub Argument : Bool → Search → List ByteString → Predicate → ByteString → Type 0
 Argument keeps search_for.Part p = Part p
 Argument keeps search_for.Pattern p = Sought keeps p
 
 -- a literal behind an operator
-pub record Equated (p : List Word) (e : Equality) (found : Predicate) (text : Word) : Type 0 where
+pub record Equated (p : List ByteString) (e : Equality) (found : Predicate) (text : ByteString) : Type 0 where
   pub value : Literal
   pub same : found ≡ equal_to p e value
   pub written : IsLiteralText value text
 
-pub record Measured (p : List Word) (c : Comparison) (found : Predicate) (text : Word) : Type 0 where
+pub record Measured (p : List ByteString) (c : Comparison) (found : Predicate) (text : ByteString) : Type 0 where
   pub number : ℤ
   pub same : found ≡ Compared p c number
   pub written : IsWhole number text
 
-abbrev pub LiteralRest : List Word → Operator → Predicate → Word → Type 0
+abbrev pub LiteralRest : List ByteString → Operator → Predicate → ByteString → Type 0
 LiteralRest p (operator.Is e) = Equated p e
 LiteralRest p (operator.Compared c) = Measured p c
 
-abbrev pub sign_for : Operator → Word
+abbrev pub sign_for : Operator → ByteString
 sign_for (operator.Is equality.Equal) = codes "=="
 sign_for (operator.Is equality.Different) = codes "!="
 sign_for (operator.Compared c) = sign_of c
 
 -- an operator and a literal
-pub record Operated (p : List Word) (found : Predicate) (text : Word) : Type 0 where
+pub record Operated (p : List ByteString) (found : Predicate) (text : ByteString) : Type 0 where
   pub sign : Operator
   pub rest : Then (Is (sign_for sign)) (LiteralRest p sign found) text
 
 -- what stands behind a path
-abbrev pub BehindPath : Bool → PathUse → List Word → Predicate → Word → Type 0
+abbrev pub BehindPath : Bool → PathUse → List ByteString → Predicate → ByteString → Type 0
 BehindPath keeps path_of.Compared p = Operated p
 BehindPath keeps (path_of.Called call.Exists) p = Close (Exists p)
 BehindPath keeps (path_of.Called (call.Has s)) p = λ found. Then (Is (codes ",")) (Argument keeps s p found)
 
 -- a path, and what stands behind it
-pub record Pathed (keeps : Bool) (use_of : PathUse) (found : Predicate) (text : Word) : Type 0 where
-  pub path : List Word
+pub record Pathed (keeps : Bool) (use_of : PathUse) (found : Predicate) (text : ByteString) : Type 0 where
+  pub path : List ByteString
   pub rest : Then (IsPathText path) (BehindPath keeps use_of path found) text
 
-abbrev pub Bracket : Bool → Call → Predicate → Word → Type 0
+abbrev pub Bracket : Bool → Call → Predicate → ByteString → Type 0
 Bracket keeps c found = Then (Is (codes "(")) (Pathed keeps (path_of.Called c) found)
 
-abbrev pub Open : Bool → Call → Predicate → Word → Type 0
+abbrev pub Open : Bool → Call → Predicate → ByteString → Type 0
 Open keeps call.Exists found text = Bracket keeps call.Exists found text
 Open keeps (call.Has s) found text = Bracket keeps (call.Has s) found text ⊎ Then (Is (codes "!")) (Bracket keeps (call.Has s) found) text
 
 -- what is expected, where it is no term and no joint
-abbrev pub ExpectedRest : Bool → Expected → Predicate → Word → Type 0
+abbrev pub ExpectedRest : Bool → Expected → Predicate → ByteString → Type 0
 ExpectedRest keeps wants.Operand found text = ⊥
 ExpectedRest keeps (wants.Operator p) found text = Operated p found text
 ExpectedRest keeps (wants.Literal p o) found text = LiteralRest p o found text
@@ -124,87 +124,87 @@ ExpectedRest keeps (wants.Close q) found text = Close q found text
 ExpectedRest keeps wants.Joint found text = ⊥
 
 -- a fixed word, of which some letters were read
-pub record InWord (w : FixedWord) (read : ℕ) (More : Word → Type 0) (text : Word) : Type 0 where
-  pub back : Word
+pub record InWord (w : FixedWord) (read : ℕ) (More : ByteString → Type 0) (text : ByteString) : Type 0 where
+  pub back : ByteString
   pub more : More back
   pub whole : text ≡ drop read (letters_of w) ++ back
 
-pub record Completed (q found : Predicate) (text : Word) : Type 0 where
+pub record Completed (q found : Predicate) (text : ByteString) : Type 0 where
   pub same : found ≡ q
   pub none : text ≡ []
 
 -- a path that has begun
-pub record InPath (keeps : Bool) (use_of : PathUse) (place : PathPlace) (name : Word) (names : List Word) (found : Predicate) (text : Word) : Type 0 where
-  pub front : Word
-  pub back : Word
-  pub others : List Word
+pub record InPath (keeps : Bool) (use_of : PathUse) (place : PathPlace) (name : ByteString) (names : List ByteString) (found : Predicate) (text : ByteString) : Type 0 where
+  pub front : ByteString
+  pub back : ByteString
+  pub others : List ByteString
   pub named : names_from (mode_of place) name front ≡ Some others
   pub few : length (names ++ others) ≤ 31
   pub more : Blanks (BehindPath keeps use_of (names ++ others) found) back
   pub whole : text ≡ front ++ back
 
 -- behind a text in quotes
-abbrev pub BehindText : TextUse → Word → Predicate → Word → Type 0
+abbrev pub BehindText : TextUse → ByteString → Predicate → ByteString → Type 0
 BehindText (text_of.Literal p e) word found text = Completed (equal_to p e (literal.Words word)) found text
 BehindText (text_of.Part p) word found text = Blanks (Close (Contains p word) found) text
 
 -- a text in quotes that has begun
-pub record InText (use_of : TextUse) (held : Word) (found : Predicate) (text : Word) : Type 0 where
-  pub front : Word
-  pub back : Word
-  pub word : Word
+pub record InText (use_of : TextUse) (held : ByteString) (found : Predicate) (text : ByteString) : Type 0 where
+  pub front : ByteString
+  pub back : ByteString
+  pub word : ByteString
   pub spelled : quoted front ≡ Some word
   pub more : BehindText use_of (held ++ word) found back
   pub whole : text ≡ front ++ back
 
-pub record InEscape (use_of : TextUse) (held : Word) (found : Predicate) (text : Word) : Type 0 where
+pub record InEscape (use_of : TextUse) (held : ByteString) (found : Predicate) (text : ByteString) : Type 0 where
   pub letter : ℕ
   pub byte : ℕ
-  pub back : Word
+  pub back : ByteString
   pub stands : escaped letter ≡ Some byte
   pub more : InText use_of (held ++ byte ∷ []) found back
   pub whole : text ≡ letter ∷ back
 
 -- a pattern that has begun
-pub record InPattern (keeps : Bool) (p : List Word) (held : Word) (found : Predicate) (text : Word) : Type 0 where
-  pub front : Word
-  pub back : Word
+pub record InPattern (keeps : Bool) (p : List ByteString) (held : ByteString) (found : Predicate) (text : ByteString) : Type 0 where
+  pub front : ByteString
+  pub back : ByteString
   pub bare : list_any (λ b. b == 39) front ≡ false
   pub more : Blanks (Close (sought keeps p (held ++ front)) found) back
   pub whole : text ≡ front ++ (39 ∷ back)
 
-pub record InMark (keeps : Bool) (p : List Word) (found : Predicate) (text : Word) : Type 0 where
-  pub back : Word
+pub record InMark (keeps : Bool) (p : List ByteString) (found : Predicate) (text : ByteString) : Type 0 where
+  pub back : ByteString
   pub more : InPattern keeps p [] found back
   pub whole : text ≡ 39 ∷ back
 
 -- a number that has begun
-pub record InMinus (p : List Word) (o : Operator) (found : Predicate) (text : Word) : Type 0 where
+pub record InMinus (p : List ByteString) (o : Operator) (found : Predicate) (text : ByteString) : Type 0 where
   pub less : ℕ
   pub number : IsNumber (suc less) text
   pub small : less < 2 ^ 63
   pub same : found ≡ with_number p o (negsuc less)
 
-pub record InWhole (p : List Word) (o : Operator) (negative : Bool) (size : ℕ) (found : Predicate) (text : Word) : Type 0 where
+pub record InWhole (p : List ByteString) (o : Operator) (negative : Bool) (size : ℕ) (found : Predicate) (text : ByteString) : Type 0 where
   pub digits : list_all is_digit text ≡ true
   pub plain : size ≡ 0 → text ≡ []
   pub small : fits negative (number_behind size text) ≡ true
   pub same : found ≡ with_number p o (signed negative (number_behind size text))
 
-pub record InAngle (p : List Word) (c : Comparison) (found : Predicate) (text : Word) : Type 0 where
-  pub back : Word
+pub record InAngle (p : List ByteString) (c : Comparison) (found : Predicate) (text : ByteString) : Type 0 where
+  pub back : ByteString
   pub more : Blanks (Measured p (or_equal c) found) back
   pub whole : text ≡ 61 ∷ back
 
 -- ---- the rest of a condition
 
 -- more terms of a branch
-abbrev pub MoreTerms : Conjunction → Word → Type 0
+abbrev pub MoreTerms : Conjunction → ByteString → Type 0
 MoreTerms no_term text = text ≡ []
 MoreTerms (term t ts) text = Blanks (Then (Is (codes "&&")) (IsConjunctionText (term t ts))) text
 
 -- more branches of a condition
-abbrev pub MoreBranches : Disjunction → Word → Type 0
+abbrev pub MoreBranches : Disjunction → ByteString → Type 0
 MoreBranches no_branch text = text ≡ []
 MoreBranches (branch c cs) text = Blanks (Then (Is (codes "||")) (IsDisjunctionText (branch c cs))) text
 
@@ -213,70 +213,70 @@ abbrev pub all_with : Bool → Frame → Conjunction → Disjunction → Disjunc
 all_with keeps f ts cs = disjunction_of (f.branches ++ (f.terms ++ terms_in (kept_conjunction keeps ts)) ∷ branches_in (kept_disjunction keeps cs))
 
 -- the rest of what stands in some brackets, behind a term
-pub record Tails (most : ℕ) (base : ℕ) (ts : Conjunction) (cs : Disjunction) (text : Word) : Type 0 where
-  pub front : Word
-  pub back : Word
+pub record Tails (most : ℕ) (base : ℕ) (ts : Conjunction) (cs : Disjunction) (text : ByteString) : Type 0 where
+  pub front : ByteString
+  pub back : ByteString
   pub terms : MoreTerms ts front
   pub branches : MoreBranches cs back
   pub whole : text ≡ front ++ back
   pub low_terms : conjunction_levels ts ≤ most - base
   pub low_branches : disjunction_levels cs ≤ most - base
 
-pub record Ends (most : ℕ) (keeps : Bool) (f : Frame) (all : Disjunction) (text : Word) : Type 0 where
+pub record Ends (most : ℕ) (keeps : Bool) (f : Frame) (all : Disjunction) (text : ByteString) : Type 0 where
   pub terms : Conjunction
   pub branches : Disjunction
   pub tails : Tails most f.base terms branches text
   pub same : all ≡ all_with keeps f terms branches
 
-pub record Closes (most : ℕ) (keeps : Bool) (f : Frame) (Outside : Disjunction → Word → Type 0) (text : Word) : Type 0 where
+pub record Closes (most : ℕ) (keeps : Bool) (f : Frame) (Outside : Disjunction → ByteString → Type 0) (text : ByteString) : Type 0 where
   pub terms : Conjunction
   pub branches : Disjunction
-  pub front : Word
-  pub blanks : Word
-  pub back : Word
+  pub front : ByteString
+  pub blanks : ByteString
+  pub back : ByteString
   pub tails : Tails most f.base terms branches front
   pub blank : list_all is_blank blanks ≡ true
   pub more : Outside (all_with keeps f terms branches) back
   pub whole : text ≡ front ++ (blanks ++ 41 ∷ back)
 
 -- behind a term, with the frames around it
-abbrev pub After : ℕ → Bool → Frame → List Frame → Disjunction → Word → Type 0
+abbrev pub After : ℕ → Bool → Frame → List Frame → Disjunction → ByteString → Type 0
 After most keeps f [] all text = Ends most keeps f all text
 After most keeps f (g ∷ outer) all text = Closes most keeps f (λ inside. After most keeps (with_term g (bracketed inside)) outer all) text
 
 -- a term, and the rest
-pub record Before (most : ℕ) (keeps : Bool) (f : Frame) (outer : List Frame) (all : Disjunction) (text : Word) : Type 0 where
+pub record Before (most : ℕ) (keeps : Bool) (f : Frame) (outer : List Frame) (all : Disjunction) (text : ByteString) : Type 0 where
   pub first : Term
-  pub front : Word
-  pub back : Word
+  pub front : ByteString
+  pub back : ByteString
   pub spelled : IsTermText first front
   pub low : term_levels first ≤ most - levels_in f
   pub more : After most keeps (with_term f (kept_term keeps first)) outer all back
   pub whole : text ≡ front ++ back
 
 -- behind a term, where blanks may have been read
-pub record Joins (most : ℕ) (keeps : Bool) (f : Frame) (outer : List Frame) (all : Disjunction) (text : Word) : Type 0 where
-  pub behind : (blanks : Word) → list_all is_blank blanks ≡ true → After most keeps f outer all (blanks ++ text)
+pub record Joins (most : ℕ) (keeps : Bool) (f : Frame) (outer : List Frame) (all : Disjunction) (text : ByteString) : Type 0 where
+  pub behind : (blanks : ByteString) → list_all is_blank blanks ≡ true → After most keeps f outer all (blanks ++ text)
 
 -- the rest of a predicate, and what stands behind it
-pub record Finishes (most : ℕ) (keeps : Bool) (f : Frame) (outer : List Frame) (Rest : Predicate → Word → Type 0) (all : Disjunction) (text : Word) : Type 0 where
+pub record Finishes (most : ℕ) (keeps : Bool) (f : Frame) (outer : List Frame) (Rest : Predicate → ByteString → Type 0) (all : Disjunction) (text : ByteString) : Type 0 where
   pub found : Predicate
-  pub front : Word
-  pub back : Word
+  pub front : ByteString
+  pub back : ByteString
   pub rest : Rest found front
   pub more : After most keeps (with_term f (tree.stated found)) outer all back
   pub whole : text ≡ front ++ back
 
-abbrev pub RestExpected : ℕ → Bool → Frame → List Frame → Expected → Disjunction → Word → Type 0
+abbrev pub RestExpected : ℕ → Bool → Frame → List Frame → Expected → Disjunction → ByteString → Type 0
 RestExpected most keeps f outer wants.Operand all text = Blanks (Before most keeps f outer all) text
 RestExpected most keeps f outer wants.Joint all text = Joins most keeps f outer all text
 RestExpected most keeps f outer e all text = Finishes most keeps f outer (λ found. Blanks (ExpectedRest keeps e found)) all text
 
-abbrev pub RestBehind : ℕ → Bool → Frame → List Frame → Behind → Disjunction → Word → Type 0
+abbrev pub RestBehind : ℕ → Bool → Frame → List Frame → Behind → Disjunction → ByteString → Type 0
 RestBehind most keeps f outer (Wants e) all text = RestExpected most keeps f outer e all text
 RestBehind most keeps f outer (Done q) all text = After most keeps (with_term f (tree.stated q)) outer all text
 
-abbrev pub RestAt : ℕ → Bool → Frame → List Frame → Mode → Disjunction → Word → Type 0
+abbrev pub RestAt : ℕ → Bool → Frame → List Frame → Mode → Disjunction → ByteString → Type 0
 RestAt most keeps f outer mode.Start all text = Before most keeps f outer all text
 RestAt most keeps f outer (mode.Expects e) all text = RestExpected most keeps f outer e all text
 RestAt most keeps f outer mode.Complete all text = After most keeps f outer all text
@@ -292,5 +292,5 @@ RestAt most keeps f outer (mode.Angle p c) all text =
     Finishes most keeps f outer (InAngle p c) all text ⊎ Finishes most keeps f outer (λ found. Blanks (Measured p c found)) all text
 
 -- a text completes what a reader has read to a condition with that tree
-abbrev pub Rest : ℕ → Reader → Disjunction → Word → Type 0
+abbrev pub Rest : ℕ → Reader → Disjunction → ByteString → Type 0
 Rest most r all text = RestAt most r.keeps r.frame r.outer r.mode all text

@@ -2,7 +2,7 @@
 use Rattle.std.proofs.Common.{◌≡◌, ℕ, Bool, true, false, cond, ◌==◌, ◌||◌, Option, Some, None, Result, Ok, Err, List, [], ◌∷◌, ◌++◌, refl, sym, ◌∙◌, ap, append_assoc, append-nil, inl, inr}
 use Rattle.std.specs.List.{list_all, list_any}
 use Rattle.std.proofs.lemmas.Bool.{and_parts, cases_Bool}
-use Rattle.vx_value.specs.Texts.{Word}
+use Rattle.vx_value.specs.Texts.{ByteString}
 use Rattle.vx_condition.specs.Grammar.{is_blank, quoted, escaped, before_rest}
 use Rattle.vx_condition.specs.Moves.{at, step, expected, behind_text, with_escape, sought}
 use Rattle.vx_condition.specs.Runs.{go_on, run}
@@ -23,7 +23,7 @@ other true x y f h = absurd (cc)
 other false x y f h = refl
 
 -- one text after another
-pub run-append : (most : ℕ) (r : Reader) (text more : Word) → run most r (text ++ more) ≡ go_on (run most r text) (λ next. run most next more)
+pub run-append : (most : ℕ) (r : Reader) (text more : ByteString) → run most r (text ++ more) ≡ go_on (run most r text) (λ next. run most next more)
 run-append most r [] more = refl
 run-append most r (b ∷ text) more = stepped (step most r b) (λ next. run most next (text ++ more)) (λ next. run most next text) (λ next. run most next more) (λ next. run-append most next text more)
   where
@@ -32,7 +32,7 @@ run-append most r (b ∷ text) more = stepped (step most r b) (λ next. run most
     stepped (Err stop) all first rest same = refl
 
 -- blanks, where something is expected
-pub over_blanks : (most : ℕ) (r : Reader) (e : Expected) (blanks text : Word) → list_all is_blank blanks ≡ true
+pub over_blanks : (most : ℕ) (r : Reader) (e : Expected) (blanks text : ByteString) → list_all is_blank blanks ≡ true
     → run most (at r (mode.Expects e)) (blanks ++ text) ≡ run most (at r (mode.Expects e)) text
 over_blanks most r e [] text h = refl
 over_blanks most r e (b ∷ blanks) text h =
@@ -50,31 +50,31 @@ on_false : {X : Type 0} (t : Bool) (x y z : X) → t ≡ false → cond t x y �
 on_false true x y z h e = absurd (cc)
 on_false false x y z h e = e
 
-record Before (o : Option ℕ) (rest : Option Word) (word : Word) : Type 0 where
+record Before (o : Option ℕ) (rest : Option ByteString) (word : ByteString) : Type 0 where
   first : ℕ
-  more : Word
+  more : ByteString
   is_first : o ≡ Some first
   is_more : rest ≡ Some more
   whole : first ∷ more ≡ word
 
-before_some : (o : Option ℕ) (rest : Option Word) (word : Word) → before_rest o rest ≡ Some word → Before o rest word
+before_some : (o : Option ℕ) (rest : Option ByteString) (word : ByteString) → before_rest o rest ≡ Some word → Before o rest word
 before_some (Some b) (Some more) word h = record { first = b; more = more; is_first = refl; is_more = refl; whole = cc }
 before_some (Some b) None word h = absurd (cc)
 before_some None (Some more) word h = absurd (cc)
 before_some None None word h = absurd (cc)
 
-over_escape : (r : Reader) (use_of : TextUse) (held : Word) (o : Option ℕ) (e : ℕ) (f : Reader → Result Reader Stop) → o ≡ Some e
+over_escape : (r : Reader) (use_of : TextUse) (held : ByteString) (o : Option ℕ) (e : ℕ) (f : Reader → Result Reader Stop) → o ≡ Some e
     → go_on (with_escape r use_of held o) f ≡ f (at r (mode.Text use_of false (held ++ e ∷ [])))
 over_escape r use_of held None e f h = absurd (cc)
 over_escape r use_of held (Some x) e f h = let same : x ≡ e = cc in ap (λ y. f (at r (mode.Text use_of false (held ++ y ∷ [])))) same
 
-longer : (most : ℕ) (r : Reader) (use_of : TextUse) (held : Word) (b : ℕ) (found word more : Word) → b ∷ found ≡ word
+longer : (most : ℕ) (r : Reader) (use_of : TextUse) (held : ByteString) (b : ℕ) (found word more : ByteString) → b ∷ found ≡ word
     → run most (behind_text r use_of ((held ++ b ∷ []) ++ found)) more ≡ run most (behind_text r use_of (held ++ word)) more
 longer most r use_of held b found word more h =
     ap (λ w. run most (behind_text r use_of w) more) (append_assoc held (b ∷ []) found ∙ ap (λ w. held ++ w) h)
 
 -- a text in quotes, behind the first quote
-pub over_text : (most : ℕ) (r : Reader) (use_of : TextUse) (held text word more : Word) → quoted text ≡ Some word
+pub over_text : (most : ℕ) (r : Reader) (use_of : TextUse) (held text word more : ByteString) → quoted text ≡ Some word
     → run most (at r (mode.Text use_of false held)) (text ++ more) ≡ run most (behind_text r use_of (held ++ word)) more
 over_text most r use_of held [] word more h = absurd (cc)
 over_text most r use_of held (b ∷ []) word more h =
@@ -112,7 +112,7 @@ over_text most r use_of held (b ∷ c ∷ rest) word more h =
     ]
 
 -- a pattern, behind its first quote
-pub over_pattern : (most : ℕ) (r : Reader) (path : List Word) (held pattern more : Word) → list_any (λ b. b == 39) pattern ≡ false
+pub over_pattern : (most : ℕ) (r : Reader) (path : List ByteString) (held pattern more : ByteString) → list_any (λ b. b == 39) pattern ≡ false
     → run most (at r (mode.Pattern path held)) (pattern ++ (39 ∷ more)) ≡ run most (at r (mode.Expects (wants.Close (sought r.keeps path (held ++ pattern))))) more
 over_pattern most r path held [] more h = ap (λ p. run most (at r (mode.Expects (wants.Close (sought r.keeps path p)))) more) (sym (append-nil held))
 over_pattern most r path held (b ∷ pattern) more h =

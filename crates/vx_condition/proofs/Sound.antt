@@ -1,6 +1,6 @@
 -- What a reader takes begins a condition, and what it has read at the end of a text is one.
 use Rattle.std.proofs.Common.{◌≡◌, ℕ, max, ◌-◌, ◌≤◌, Bool, true, false, cond, Some, Result, Ok, Err, pos, negsuc, List, [], ◌∷◌, ◌++◌, length, drop, codes, refl, sym, ◌∙◌, ap, subst, append_assoc, append-nil, arith, inl, inr, length-append}
-use Rattle.vx_value.specs.Texts.{Word, is_empty}
+use Rattle.vx_value.specs.Texts.{ByteString, is_empty}
 use Rattle.vx_value.specs.Paths.{carry, names_from}
 use Rattle.vx_value.specs.declared.path_mode.PathMode.TheVariants as of_value
 use Rattle.vx_value.specs.declared.path_mode.PathMove.TheVariants as move
@@ -64,14 +64,14 @@ pub went : (s : Result Reader Stop) (f : Reader → Result Reader Stop) (last : 
 went (Ok next) f last h = record { next = next; one = refl; more = h }
 went (Err e) f last h = bad e last h
 
-pub fit_run : (most : ℕ) (r last : Reader) (text : Word) → Fit r → run most r text ≡ good last → Fit last
+pub fit_run : (most : ℕ) (r last : Reader) (text : ByteString) → Fit r → run most r text ≡ good last → Fit last
 fit_run most r last [] fit h = reach r last Fit h fit
 fit_run most r last (b ∷ text) fit h =
     let w = went (step most r b) (λ next. run most next text) last h in
     let l = leapt most r w.next b fit w.one in
     fit_run most w.next last text l.fit w.more
 
-pub rest_run : (most : ℕ) (r last : Reader) (text : Word) (all : Disjunction) (rest : Word) → Fit r → run most r text ≡ good last → Rest most last all rest → Rest most r all (text ++ rest)
+pub rest_run : (most : ℕ) (r last : Reader) (text : ByteString) (all : Disjunction) (rest : ByteString) → Fit r → run most r text ≡ good last → Rest most last all rest → Rest most r all (text ++ rest)
 rest_run most r last [] all rest fit h x = land r last (λ y. Rest most y all rest) h x
 rest_run most r last (b ∷ text) all rest fit h x =
     let w = went (step most r b) (λ next. run most next text) last h in
@@ -79,13 +79,13 @@ rest_run most r last (b ∷ text) all rest fit h x =
     back most r w.next b all (text ++ rest) fit w.one (rest_run most w.next last text all rest l.fit w.more x)
 
 -- ---- a whole condition
-pub record Found (most : ℕ) (keeps : Bool) (all : Disjunction) (text : Word) : Type 0 where
+pub record Found (most : ℕ) (keeps : Bool) (all : Disjunction) (text : ByteString) : Type 0 where
   pub tree : Disjunction
   pub spelled : IsDisjunctionText tree text
   pub low : disjunction_levels tree ≤ most
   pub same : all ≡ kept_disjunction keeps tree
 
-found_whole : (most : ℕ) (keeps : Bool) (all : Disjunction) (text : Word) → Before most keeps (fresh 0) [] all text → Found most keeps all text
+found_whole : (most : ℕ) (keeps : Bool) (all : Disjunction) (text : ByteString) → Before most keeps (fresh 0) [] all text → Found most keeps all text
 found_whole most keeps all text before =
     let t = before.first in
     let e = before.more in
@@ -101,7 +101,7 @@ found_whole most keeps all text before =
     low_whole : (most l m n : ℕ) → l ≤ most - 0 → m ≤ most - 0 → n ≤ most - 0 → max (max l m) n ≤ most
     low_whole most l m n a b c = omega arith
 
-pub found_run : (most : ℕ) (keeps : Bool) (last : Reader) (text : Word) (all : Disjunction) (rest : Word) → run most (begun keeps) text ≡ good last → Rest most last all rest → Found most keeps all (text ++ rest)
+pub found_run : (most : ℕ) (keeps : Bool) (last : Reader) (text : ByteString) (all : Disjunction) (rest : ByteString) → run most (begun keeps) text ≡ good last → Rest most last all rest → Found most keeps all (text ++ rest)
 found_run most keeps last text all rest h x = found_whole most keeps all (text ++ rest) (rest_run most (begun keeps) last text all rest tt h x)
 
 -- ---- at the end of a text
@@ -133,7 +133,7 @@ ended_at most keeps f outer (mode.Minus p o) bs fit h = absurd (cc)
 ended_at most keeps f outer (mode.Angle p c) bs fit h = absurd (cc)
 
 -- a text at whose end a reader has read a condition is one, with that tree
-pub sound : (most : ℕ) (keeps : Bool) (last : Reader) (text : Word) (bs : List (List Term)) → run most (begun keeps) text ≡ good last → end_at last.frame last.outer last.mode ≡ Some bs
+pub sound : (most : ℕ) (keeps : Bool) (last : Reader) (text : ByteString) (bs : List (List Term)) → run most (begun keeps) text ≡ good last → end_at last.frame last.outer last.mode ≡ Some bs
     → Found most keeps (disjunction_of bs) text
 sound most keeps last text bs h e =
     let fit : Fit last = fit_run most (begun keeps) last text tt h in
@@ -141,14 +141,14 @@ sound most keeps last text bs h e =
     (found_run most keeps last text (disjunction_of bs) [] h (ended_at most last.keeps last.frame last.outer last.mode bs fit e))
 
 -- ---- something completes each reader
-record Some_rest (Q : Disjunction → Word → Type 0) : Type 0 where
+record Some_rest (Q : Disjunction → ByteString → Type 0) : Type 0 where
   all : Disjunction
-  text : Word
+  text : ByteString
   holds : Q all text
 
-record Some_predicate (L : Predicate → Word → Type 0) : Type 0 where
+record Some_predicate (L : Predicate → ByteString → Type 0) : Type 0 where
   found : Predicate
-  text : Word
+  text : ByteString
   holds : L found text
 
 some_after : (most : ℕ) (keeps : Bool) (f : Frame) (outer : List Frame) → Some_rest (After most keeps f outer)
@@ -161,21 +161,21 @@ some_after most keeps f (g ∷ outer) =
       holds = record { terms = no_term; branches = no_branch; front = []; blanks = []; back = more.text; tails = none_more most f.base; blank = refl; more = more.holds; whole = refl };
     }
 
-some_finish : (most : ℕ) (keeps : Bool) (f : Frame) (outer : List Frame) (L : Predicate → Word → Type 0) → Some_predicate L → Some_rest (Finishes most keeps f outer L)
+some_finish : (most : ℕ) (keeps : Bool) (f : Frame) (outer : List Frame) (L : Predicate → ByteString → Type 0) → Some_predicate L → Some_rest (Finishes most keeps f outer L)
 some_finish most keeps f outer L p =
     let more = some_after most keeps (with_term f (tree.stated p.found)) outer in
     record { all = more.all; text = p.text ++ more.text; holds = record { found = p.found; front = p.text; back = more.text; rest = p.holds; more = more.holds; whole = refl } }
 
-some_blanks : (L : Predicate → Word → Type 0) → Some_predicate L → Some_predicate (λ found. Blanks (L found))
+some_blanks : (L : Predicate → ByteString → Type 0) → Some_predicate L → Some_predicate (λ found. Blanks (L found))
 some_blanks L p = record { found = p.found; text = p.text; holds = no_blanks (L p.found) p.text p.holds }
 
-some_then : (First : Word → Type 0) (token : Word) (L : Predicate → Word → Type 0) → First token → Some_predicate L → Some_predicate (λ found. Then First (L found))
+some_then : (First : ByteString → Type 0) (token : ByteString) (L : Predicate → ByteString → Type 0) → First token → Some_predicate L → Some_predicate (λ found. Then First (L found))
 some_then First token L f p = record { found = p.found; text = token ++ p.text; holds = token_then First (L p.found) token p.text f (no_blanks (L p.found) p.text p.holds) }
 
 some_close : (q : Predicate) → Some_predicate (Close q)
 some_close q = record { found = q; text = codes ")"; holds = record { same = refl; written = refl } }
 
-some_argument : (keeps : Bool) (s : Search) (p : List Word) → Some_predicate (Argument keeps s p)
+some_argument : (keeps : Bool) (s : Search) (p : List ByteString) → Some_predicate (Argument keeps s p)
 some_argument keeps search_for.Part p =
     let c = some_then (IsString []) (34 ∷ 34 ∷ []) (Close (Contains p [])) (record { rest = 34 ∷ []; opened = refl; held = refl }) (some_close (Contains p [])) in
     record { found = c.found; text = c.text; holds = record { word = []; rest = c.holds } }
@@ -183,29 +183,29 @@ some_argument keeps search_for.Pattern p =
     let c = some_then (IsPatternText []) (codes "r''") (Close (sought keeps p [])) (record { bare = refl; written = refl }) (some_close (sought keeps p [])) in
     record { found = c.found; text = c.text; holds = record { word = []; rest = c.holds } }
 
-some_comma : (keeps : Bool) (s : Search) (p : List Word) → Some_predicate (λ found. Then (Is (codes ",")) (Argument keeps s p found))
+some_comma : (keeps : Bool) (s : Search) (p : List ByteString) → Some_predicate (λ found. Then (Is (codes ",")) (Argument keeps s p found))
 some_comma keeps s p = some_then (Is (codes ",")) (codes ",") (Argument keeps s p) refl (some_argument keeps s p)
 
-some_measure : (p : List Word) (c : Comparison) → Some_predicate (Measured p c)
+some_measure : (p : List ByteString) (c : Comparison) → Some_predicate (Measured p c)
 some_measure p c = record { found = Compared p c (pos 0); text = codes "0"; holds = record { number = pos 0; same = refl; written = (record { digits = refl; plain = refl; value = refl }, omega arith) } }
 
-some_literal : (p : List Word) (o : Operator) → Some_predicate (LiteralRest p o)
+some_literal : (p : List ByteString) (o : Operator) → Some_predicate (LiteralRest p o)
 some_literal p (operator.Is e) = record { found = equal_to p e literal.Null; text = codes "null"; holds = record { value = literal.Null; same = refl; written = refl } }
 some_literal p (operator.Compared c) = some_measure p c
 
-some_operator : (p : List Word) → Some_predicate (Operated p)
+some_operator : (p : List ByteString) → Some_predicate (Operated p)
 some_operator p =
     let l = some_then (Is (codes "==")) (codes "==") (Equated p equality.Equal) refl (some_literal p (operator.Is equality.Equal)) in
     record { found = l.found; text = l.text; holds = record { sign = operator.Is equality.Equal; rest = l.holds } }
 
-some_behind_path : (keeps : Bool) (use_of : PathUse) (p : List Word) → Some_predicate (BehindPath keeps use_of p)
+some_behind_path : (keeps : Bool) (use_of : PathUse) (p : List ByteString) → Some_predicate (BehindPath keeps use_of p)
 some_behind_path keeps path_of.Compared p = some_operator p
 some_behind_path keeps (path_of.Called call.Exists) p = some_close (Exists p)
 some_behind_path keeps (path_of.Called (call.Has s)) p = some_comma keeps s p
 
 some_path : (keeps : Bool) (use_of : PathUse) → Some_predicate (Pathed keeps use_of)
 some_path keeps use_of =
-    let path : List Word = (97 ∷ []) ∷ [] in
+    let path : List ByteString = (97 ∷ []) ∷ [] in
     let l = some_then (IsPathText path) (46 ∷ 97 ∷ []) (BehindPath keeps use_of path) (record { rest = 97 ∷ []; dot = refl; names = refl; few = omega arith }) (some_behind_path keeps use_of path) in
     record { found = l.found; text = l.text; holds = record { path = path; rest = l.holds } }
 
@@ -217,26 +217,26 @@ some_open keeps call.Exists = let b = some_bracket keeps call.Exists in record {
 some_open keeps (call.Has s) = let b = some_bracket keeps (call.Has s) in record { found = b.found; text = b.text; holds = inl b.holds }
 
 -- ---- the same inside a token
-not_empty : (name : Word) (b : ℕ) → is_empty (name ++ b ∷ []) ≡ false
+not_empty : (name : ByteString) (b : ℕ) → is_empty (name ++ b ∷ []) ≡ false
 not_empty [] b = refl
 not_empty (c ∷ name) b = refl
 
-record Some_name (p : PathPlace) (name : Word) : Type 0 where
-  front : Word
-  other : Word
+record Some_name (p : PathPlace) (name : ByteString) : Type 0 where
+  front : ByteString
+  other : ByteString
   named : names_from (mode_of p) name front ≡ Some (other ∷ [])
 
-quote_ends : (name : Word) (b : ℕ) → names_from of_value.Quoted (name ++ b ∷ []) (34 ∷ []) ≡ Some ((name ++ b ∷ []) ∷ [])
+quote_ends : (name : ByteString) (b : ℕ) → names_from of_value.Quoted (name ++ b ∷ []) (34 ∷ []) ≡ Some ((name ++ b ∷ []) ∷ [])
 quote_ends name b = ap (λ t. carry (cond t move.Refused (move.Passes of_value.Closed)) (name ++ b ∷ []) 34 (λ m n. names_from m n [])) (not_empty name b)
 
-some_name : (p : PathPlace) (name : Word) → Some_name p name
+some_name : (p : PathPlace) (name : ByteString) → Some_name p name
 some_name place.Name name = record { front = 97 ∷ []; other = name ++ 97 ∷ []; named = refl }
 some_name place.Bare name = record { front = []; other = name; named = refl }
 some_name place.Quoted name = record { front = 97 ∷ 34 ∷ []; other = name ++ 97 ∷ []; named = quote_ends name 97 }
 some_name place.Escaped name = record { front = 34 ∷ 34 ∷ []; other = name ++ 34 ∷ []; named = quote_ends name 34 }
 some_name place.Closed name = record { front = []; other = name; named = refl }
 
-some_in_path : (keeps : Bool) (use_of : PathUse) (p : PathPlace) (name : Word) (names : List Word) → length names ≤ 30 → Some_predicate (InPath keeps use_of p name names)
+some_in_path : (keeps : Bool) (use_of : PathUse) (p : PathPlace) (name : ByteString) (names : List ByteString) → length names ≤ 30 → Some_predicate (InPath keeps use_of p name names)
 some_in_path keeps use_of p name names few =
     let n = some_name p name in
     let b = some_behind_path keeps use_of (names ++ n.other ∷ []) in
@@ -254,7 +254,7 @@ some_in_path keeps use_of p name names few =
       };
     }
 
-some_in_text : (use_of : TextUse) (held : Word) → Some_predicate (InText use_of held)
+some_in_text : (use_of : TextUse) (held : ByteString) → Some_predicate (InText use_of held)
 some_in_text (text_of.Literal p e) held =
     record {
       found = equal_to p e (literal.Words (held ++ []));
@@ -269,23 +269,23 @@ some_in_text (text_of.Part p) held =
       holds = record { front = 34 ∷ []; back = c.text; word = []; spelled = refl; more = no_blanks (Close (Contains p (held ++ [])) c.found) c.text c.holds; whole = refl };
     }
 
-some_in_escape : (use_of : TextUse) (held : Word) → Some_predicate (InEscape use_of held)
+some_in_escape : (use_of : TextUse) (held : ByteString) → Some_predicate (InEscape use_of held)
 some_in_escape use_of held =
     let t = some_in_text use_of (held ++ 10 ∷ []) in
     record { found = t.found; text = 110 ∷ t.text; holds = record { letter = 110; byte = 10; back = t.text; stands = refl; more = t.holds; whole = refl } }
 
-some_in_pattern : (keeps : Bool) (p : List Word) (held : Word) → Some_predicate (InPattern keeps p held)
+some_in_pattern : (keeps : Bool) (p : List ByteString) (held : ByteString) → Some_predicate (InPattern keeps p held)
 some_in_pattern keeps p held =
     let c = some_close (sought keeps p (held ++ [])) in
     record { found = c.found; text = 39 ∷ c.text; holds = record { front = []; back = c.text; bare = refl; more = no_blanks (Close (sought keeps p (held ++ [])) c.found) c.text c.holds; whole = refl } }
 
-some_in_mark : (keeps : Bool) (p : List Word) → Some_predicate (InMark keeps p)
+some_in_mark : (keeps : Bool) (p : List ByteString) → Some_predicate (InMark keeps p)
 some_in_mark keeps p = let i = some_in_pattern keeps p [] in record { found = i.found; text = 39 ∷ i.text; holds = record { back = i.text; more = i.holds; whole = refl } }
 
-some_in_minus : (p : List Word) (o : Operator) → Some_predicate (InMinus p o)
+some_in_minus : (p : List ByteString) (o : Operator) → Some_predicate (InMinus p o)
 some_in_minus p o = record { found = with_number p o (negsuc 0); text = codes "1"; holds = record { less = 0; number = record { digits = refl; plain = refl; value = refl }; small = omega arith; same = refl } }
 
-some_in_whole : (p : List Word) (o : Operator) (negative : Bool) (size : ℕ) → fits negative size ≡ true → Some_predicate (InWhole p o negative size)
+some_in_whole : (p : List ByteString) (o : Operator) (negative : Bool) (size : ℕ) → fits negative size ≡ true → Some_predicate (InWhole p o negative size)
 some_in_whole p o negative size fit = record { found = with_number p o (signed negative size); text = []; holds = record { digits = refl; plain = λ e. refl; small = fit; same = refl } }
 
 -- ---- the same where something is expected
@@ -338,13 +338,13 @@ some_at most r (mode.Angle p c) fit =
     record { all = m.all; text = m.text; holds = inr m.holds }
 
 -- a text that a reader of so many levels takes begins a condition of so many levels
-pub record Viable (most : ℕ) (front : Word) : Type 0 where
-  pub rest : Word
+pub record Viable (most : ℕ) (front : ByteString) : Type 0 where
+  pub rest : ByteString
   pub tree : Disjunction
   pub spelled : IsDisjunctionText tree (front ++ rest)
   pub low : disjunction_levels tree ≤ most
 
-pub viable : (most : ℕ) (keeps : Bool) (last : Reader) (front : Word) → run most (begun keeps) front ≡ good last → Viable most front
+pub viable : (most : ℕ) (keeps : Bool) (last : Reader) (front : ByteString) → run most (begun keeps) front ≡ good last → Viable most front
 viable most keeps last front h =
     let fit : Fit last = fit_run most (begun keeps) last front tt h in
     let s = some_at most last last.mode fit in

@@ -2,7 +2,7 @@
 use Rattle.std.proofs.Common.{◌≡◌, ℕ, zero, suc, ◌+◌, ◌≤◌, ◌<◌, Bool, true, false, not, ◌==◌, ◌||◌, Ok, Err, List, [], ◌∷◌, ◌++◌, refl, sym, ◌∙◌, ap, append_assoc, arith, nat_lt, lt-ltb, add-one, eqb-true, inl, inr}
 use Rattle.std.specs.List.{list_all}
 use Rattle.std.proofs.lemmas.Bool.{and_parts, or_cases}
-use Rattle.vx_value.specs.Texts.{Word}
+use Rattle.vx_value.specs.Texts.{ByteString}
 use Rattle.vx_condition.specs.Trees as tree
 use Rattle.vx_condition.specs.Trees.{Term, negated, bracketed, Conjunction, no_term, term, Disjunction, no_branch, branch, negated_times, conjunction_of, disjunction_of}
 use Rattle.vx_condition.specs.Grammar.{is_blank, is_digit, IsTermText, IsConjunctionText, IsDisjunctionText}
@@ -53,11 +53,11 @@ blank_no_digit b h = undigit (is_digit b) (λ d. no_both b h d)
           | inr x ↦ no_digit b 32 refl d (eqb-true b 32 x)
         ]
 
-blanks_follow : (blanks : Word) (k : ℕ) (more : Word) → list_all is_blank blanks ≡ true → not (is_digit k) ≡ true → may_follow (blanks ++ (k ∷ more)) ≡ true
+blanks_follow : (blanks : ByteString) (k : ℕ) (more : ByteString) → list_all is_blank blanks ≡ true → not (is_digit k) ≡ true → may_follow (blanks ++ (k ∷ more)) ≡ true
 blanks_follow [] k more h d = d
 blanks_follow (b ∷ blanks) k more h d = let both = and_parts (is_blank b) (list_all is_blank blanks) h in blank_no_digit b both.0
 
-to_joint : (most : ℕ) (r : Reader) (blanks : Word) (k : ℕ) (more : Word) → list_all is_blank blanks ≡ true
+to_joint : (most : ℕ) (r : Reader) (blanks : ByteString) (k : ℕ) (more : ByteString) → list_all is_blank blanks ≡ true
     → (run most (at r mode.Complete) (k ∷ more) ≡ run most (at r (mode.Expects wants.Joint)) (k ∷ more))
     → run most (at r mode.Complete) (blanks ++ (k ∷ more)) ≡ run most (at r (mode.Expects wants.Joint)) (k ∷ more)
 to_joint most r [] k more h here = here
@@ -67,11 +67,11 @@ to_joint most r (b ∷ blanks) k more h here =
     ∙ over_blanks most r wants.Joint blanks (k ∷ more) both.1
 
 -- opening a level
-opens_mark : (most : ℕ) (r : Reader) (text : Word) → levels_in r.frame < most
+opens_mark : (most : ℕ) (r : Reader) (text : ByteString) → levels_in r.frame < most
     → run most (at r (mode.Expects wants.Operand)) (33 ∷ text) ≡ run most (record r { frame = record r.frame { negations = r.frame.negations + 1 }; mode = mode.Expects wants.Operand }) text
 opens_mark most r text h = chosen (nat_lt (levels_in r.frame) most) (Ok (record r { frame = record r.frame { negations = r.frame.negations + 1 }; mode = mode.Expects wants.Operand })) (Err stop.Deep) (λ n. run most n text) (lt-ltb (levels_in r.frame) most h)
 
-opens_bracket : (most : ℕ) (r : Reader) (text : Word) → levels_in r.frame < most
+opens_bracket : (most : ℕ) (r : Reader) (text : ByteString) → levels_in r.frame < most
     → run most (at r (mode.Expects wants.Operand)) (40 ∷ text) ≡ run most (inside r.keeps (levels_in r.frame + 1) (r.frame ∷ r.outer) [] [] (mode.Expects wants.Operand)) text
 opens_bracket most r text h = chosen (nat_lt (levels_in r.frame) most) (Ok (record r { frame = fresh (levels_in r.frame + 1); outer = r.frame ∷ r.outer; mode = mode.Expects wants.Operand })) (Err stop.Deep) (λ n. run most n text) (lt-ltb (levels_in r.frame) most h)
 
@@ -89,14 +89,14 @@ disjunction_of-branches no_branch = refl
 disjunction_of-branches (branch c cs) = λ i. branch (conjunction_of-terms c i) (disjunction_of-branches cs i)
 
 -- what is read inside brackets is the whole condition
-pub whole_of : (keeps : Bool) (d : Disjunction) (text : Word) → IsDisjunctionText d text
+pub whole_of : (keeps : Bool) (d : Disjunction) (text : ByteString) → IsDisjunctionText d text
     → disjunction_of (earlier_branches [] (kept_disjunction keeps d) ++ last_branch (kept_disjunction keeps d) ∷ []) ≡ kept_disjunction keeps d
 whole_of keeps no_branch text is = absurd is
 whole_of keeps (branch c cs) text is =
     ap disjunction_of (all_of [] (kept_conjunction keeps c) (kept_disjunction keeps cs)) ∙ disjunction_of-branches (branch (kept_conjunction keeps c) (kept_disjunction keeps cs))
 
 mutual
-  pub over_term : (t : Term) (most : ℕ) (r : Reader) (text more : Word) → IsTermText t text → may_follow more ≡ true → term_levels t + levels_in r.frame ≤ most
+  pub over_term : (t : Term) (most : ℕ) (r : Reader) (text more : ByteString) → IsTermText t text → may_follow more ≡ true → term_levels t + levels_in r.frame ≤ most
       → out most (at r (mode.Expects wants.Operand)) (text ++ more) ≡ out most (behind_term r (kept_term r.keeps t)) more
   over_term (tree.stated p) most r text more is h few = over_predicate most r p text more is h
   over_term (negated t) most r text more is h few =
@@ -117,7 +117,7 @@ mutual
       ∙ ap settled (to_joint most (inside r.keeps base around (earlier_branches [] kd) (last_branch kd) mode.Complete) inner.blanks 41 more inner.blank refl)
       ∙ ap (λ e. out most (behind_term r (bracketed e)) more) (whole_of r.keeps d inner.front inner.first)
 
-  pub over_conjunction : (c : Conjunction) (most : ℕ) (keeps : Bool) (base : ℕ) (outer : List Frame) (branches : List (List Term)) (terms : List Term) (text more : Word)
+  pub over_conjunction : (c : Conjunction) (most : ℕ) (keeps : Bool) (base : ℕ) (outer : List Frame) (branches : List (List Term)) (terms : List Term) (text more : ByteString)
       → IsConjunctionText c text → may_follow more ≡ true → conjunction_levels c + base ≤ most
       → out most (inside keeps base outer branches terms (mode.Expects wants.Operand)) (text ++ more)
       ≡ out most (inside keeps base outer branches (terms ++ terms_in (kept_conjunction keeps c)) mode.Complete) more
@@ -137,7 +137,7 @@ mutual
       ∙ over_conjunction (term u ts) most keeps base outer branches (terms ++ kt ∷ []) joined.back more joined.more h (omega arith)
       ∙ ap (λ us. out most (inside keeps base outer branches us mode.Complete) more) (append_assoc terms (kt ∷ []) (terms_in (kept_conjunction keeps (term u ts))))
 
-  pub over_disjunction : (d : Disjunction) (most : ℕ) (keeps : Bool) (base : ℕ) (outer : List Frame) (branches : List (List Term)) (text more : Word)
+  pub over_disjunction : (d : Disjunction) (most : ℕ) (keeps : Bool) (base : ℕ) (outer : List Frame) (branches : List (List Term)) (text more : ByteString)
       → IsDisjunctionText d text → may_follow more ≡ true → disjunction_levels d + base ≤ most
       → out most (inside keeps base outer branches [] (mode.Expects wants.Operand)) (text ++ more)
       ≡ out most (inside keeps base outer (earlier_branches branches (kept_disjunction keeps d)) (last_branch (kept_disjunction keeps d)) mode.Complete) more

@@ -1,6 +1,6 @@
 -- What the definitions say of closed texts and events.
 use Rattle.std.specs.Prelude.{◌≡◌, ◌-◌, ◌^◌, ℤ, pos, true, false, Some, None, List, [], ◌∷◌, codes, map, length}
-use Rattle.vx_value.specs.Texts.{Word}
+use Rattle.vx_value.specs.Texts.{ByteString}
 use Rattle.vx_value.specs.Datum.{Datum, Truth, Whole, Words, NamedDatum}
 use Rattle.vx_value.specs.declared.event.Event.{Event}
 use Rattle.vx_condition.specs.Trees.{Term, negated, stated, no_term, term, Disjunction, no_branch, branch}
@@ -16,14 +16,14 @@ use Rattle.vx_condition.specs.declared.predicate.Predicate.TheVariants.{Equal, C
 use Rattle.vx_condition.specs.declared.how.How.TheVariants.{Sum}
 use Rattle.vx_condition.specs.declared.dedupe_fields.DedupeFields.TheVariants.{Match, Ignore}
 
-abbrev field : Word → Datum → NamedDatum
+abbrev field : ByteString → Datum → NamedDatum
 field name value = record { name = name; value = value }
 
 abbrev event : List NamedDatum → Event
 event fields = record { fields = fields }
 
 -- an event with a message alone
-abbrev message : Word → Event
+abbrev message : ByteString → Event
 message text = event (field (codes "message") (Words text) ∷ [])
 
 -- a condition of one term
@@ -33,7 +33,7 @@ alone t = branch (term t no_term) no_branch
 abbrev accepts : Disjunction → Test
 accepts tree e = disjunction_holds tree e.fields
 
-abbrev is_message : Word → Disjunction
+abbrev is_message : ByteString → Disjunction
 is_message text = alone (stated (Equal (codes "message" ∷ []) (literal.Words text)))
 
 abbrev none_accepted : Test
@@ -77,7 +77,7 @@ FilterDropsAll =
     passed (filter_passes (accepts (is_message (codes "k"))))
     (comes (message (codes "a")) 0 ∷ comes (message (codes "b")) 0 ∷ comes (message (codes "c")) 0 ∷ []) ≡ []
 
-abbrev holds_part : Word → Test
+abbrev holds_part : ByteString → Test
 holds_part part = accepts (alone (stated (Contains (codes "message" ∷ []) part)))
 
 abbrev pub RouteOnTwoPorts : Type 0

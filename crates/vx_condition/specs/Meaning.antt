@@ -1,7 +1,7 @@
 -- What a condition says of an event.
 use Rattle.std.specs.Prelude.{ℤ, Bool, true, false, not, ◌&&◌, ◌||◌, ◌==◌, int_lt, int_le, Option, Some, is_some, unwrap_or, List, [], ◌∷◌, if◌then◌else◌}
 use Rattle.std.specs.Ordering.{int_eq}
-use Rattle.vx_value.specs.Texts.{Word, same_text}
+use Rattle.vx_value.specs.Texts.{ByteString, same_text}
 use Rattle.vx_value.specs.Datum.{Datum, NamedDatum}
 use Rattle.vx_value.specs.Datum as datum
 use Rattle.vx_value.specs.Events.{value_at}
@@ -39,18 +39,18 @@ is_whole_and test (Some (datum.Whole z)) = test z
 is_whole_and test d = false
 
 -- whether there is a text, of which a test holds
-abbrev pub is_words_and : (Word → Bool) → Option Datum → Bool
+abbrev pub is_words_and : (ByteString → Bool) → Option Datum → Bool
 is_words_and test (Some (datum.Words w)) = test w
 is_words_and test d = false
 
 -- whether a text begins with another
-abbrev pub begins_with : Word → Word → Bool
+abbrev pub begins_with : ByteString → ByteString → Bool
 begins_with [] text = true
 begins_with (a ∷ part) [] = false
 begins_with (a ∷ part) (b ∷ text) = (a == b) && begins_with part text
 
 -- whether a text is a part of another
-abbrev pub is_part : Word → Word → Bool
+abbrev pub is_part : ByteString → ByteString → Bool
 is_part part [] = begins_with part []
 is_part part (b ∷ text) = begins_with part (b ∷ text) || is_part part text
 

@@ -2,7 +2,7 @@
 use Rattle.std.specs.Prelude.{◌-◌, ◌^◌, nat_le, Bool, false, ℤ, pos, negsuc, ◌+ℤ◌, int_lt, Option, Some, None, List, [], ◌∷◌, ◌++◌, if◌then◌else◌}
 use Rattle.std.specs.List.{list_any}
 use Rattle.vx_value.specs.Datum.{Datum, Null, Whole, Words, Items, data_of, data_list, NamedDatum, depth}
-use Rattle.vx_value.specs.Texts.{Word, same_text}
+use Rattle.vx_value.specs.Texts.{ByteString, same_text}
 use Rattle.vx_value.specs.Events.{value_under, with_field}
 use Rattle.vx_value.specs.declared.event.Event.{Event}
 use Rattle.vx_condition.specs.declared.how.How.{How}
@@ -21,7 +21,7 @@ of_wholes f (Whole a) (Whole b) = Whole (f a b)
 of_wholes f s v = s
 
 -- two texts with one between, and else the first value
-abbrev pub of_texts : Word → Datum → Datum → Datum
+abbrev pub of_texts : ByteString → Datum → Datum → Datum
 of_texts between (Words a) (Words b) = Words (a ++ (between ++ b))
 of_texts between s v = s
 
@@ -61,35 +61,35 @@ begun (Some Array) v = Items (data_of (listed v ∷ []))
 begun how v = v
 
 -- the strategy of a field: the first with its name
-abbrev pub strategy_of : List Strategy → Word → Option How
+abbrev pub strategy_of : List Strategy → ByteString → Option How
 strategy_of [] name = None
 strategy_of (s ∷ strategies) name = if same_text s.field name then Some s.how else strategy_of strategies name
 
 -- whether a name is the first of some path
-abbrev pub is_first_of : Word → List Word → Bool
+abbrev pub is_first_of : ByteString → List ByteString → Bool
 is_first_of name [] = false
 is_first_of name (first ∷ rest) = same_text first name
 
 -- whether a field tells groups apart, so that it keeps the value that it came with
-abbrev pub is_grouping : List (List Word) → Word → Bool
+abbrev pub is_grouping : List (List ByteString) → ByteString → Bool
 is_grouping group_by name = list_any (is_first_of name) group_by
 
 -- the value of a field of an event in a group that has this one or none so far
-abbrev pub merged_value : List (List Word) → List Strategy → NamedDatum → Option Datum → Datum
+abbrev pub merged_value : List (List ByteString) → List Strategy → NamedDatum → Option Datum → Datum
 merged_value group_by strategies field None = if is_grouping group_by field.name then field.value else begun (strategy_of strategies field.name) field.value
 merged_value group_by strategies field (Some s) = if is_grouping group_by field.name then s else combined (strategy_of strategies field.name) s field.value
 
 -- a group's fields with those of an event
-abbrev pub merged_with : List (List Word) → List Strategy → List NamedDatum → List NamedDatum → List NamedDatum
+abbrev pub merged_with : List (List ByteString) → List Strategy → List NamedDatum → List NamedDatum → List NamedDatum
 merged_with group_by strategies group [] = group
 merged_with group_by strategies group (field ∷ rest) =
     merged_with group_by strategies (with_field group field.name (merged_value group_by strategies field (value_under group field.name))) rest
 
 -- the fields of events, merged in order with those of a group
-abbrev pub merged_onto : List (List Word) → List Strategy → List NamedDatum → List Event → List NamedDatum
+abbrev pub merged_onto : List (List ByteString) → List Strategy → List NamedDatum → List Event → List NamedDatum
 merged_onto group_by strategies group [] = group
 merged_onto group_by strategies group (e ∷ es) = merged_onto group_by strategies (merged_with group_by strategies group e.fields) es
 
 -- the event that some events are merged to
-abbrev pub merged : List (List Word) → List Strategy → List Event → Event
+abbrev pub merged : List (List ByteString) → List Strategy → List Event → Event
 merged group_by strategies es = record { fields = merged_onto group_by strategies [] es }

@@ -1,6 +1,6 @@
 -- What a byte makes of a reader of conditions.
 use Rattle.std.specs.Prelude.{◌≡◌, ℕ, ◌+◌, ◌-◌, ◌*◌, ◌^◌, ◌==◌, ◌&&◌, ◌||◌, nat_lt, nat_le, Bool, true, false, not, ℤ, pos, negsuc, Option, Some, None, Result, Ok, Err, List, [], ◌∷◌, ◌++◌, length, slice_index_or, if◌then◌else◌}
-use Rattle.vx_value.specs.Texts.{Word}
+use Rattle.vx_value.specs.Texts.{ByteString}
 use Rattle.vx_condition.specs.Trees as tree
 use Rattle.vx_condition.specs.Trees.{disjunction_of, negated_times}
 use Rattle.vx_condition.specs.Grammar.{is_blank, is_digit, escaped}
@@ -72,12 +72,12 @@ abbrev pub stated : Reader → Predicate → Reader
 stated r p = record r { frame = with_term r.frame (tree.stated p); mode = mode.Complete }
 
 -- the predicate that a value is a literal, or isn't
-abbrev pub equal_to : List Word → Equality → Literal → Predicate
+abbrev pub equal_to : List ByteString → Equality → Literal → Predicate
 equal_to p Equal l = predicate.Equal p l
 equal_to p Different l = predicate.Different p l
 
 -- the predicate of a path, an operator and a whole number
-abbrev pub with_number : List Word → Operator → ℤ → Predicate
+abbrev pub with_number : List ByteString → Operator → ℤ → Predicate
 with_number p (Is e) z = equal_to p e (literal.Whole z)
 with_number p (Compared c) z = predicate.Compared p c z
 
@@ -100,7 +100,7 @@ operand_mode b =
     else (if b == 109 then Some (mode.Word fixed.Match 1 (Wants (wants.Open (call.Has search_for.Pattern)))) else None)))
 
 -- what an operator begins with
-abbrev pub operator_mode : List Word → ℕ → Option Mode
+abbrev pub operator_mode : List ByteString → ℕ → Option Mode
 operator_mode p b =
     if b == 61 then Some (mode.Word fixed.Equals 1 (Wants (wants.Literal p (Is Equal))))
     else (if b == 33 then Some (mode.Word fixed.Differs 1 (Wants (wants.Literal p (Is Different))))
@@ -112,11 +112,11 @@ abbrev pub begins_number : ℕ → Bool
 begins_number b = (b == 45) || is_digit b
 
 -- where its first byte leads
-abbrev pub number_mode : List Word → Operator → ℕ → Mode
+abbrev pub number_mode : List ByteString → Operator → ℕ → Mode
 number_mode p o b = if b == 45 then mode.Minus p o else mode.Whole p o false (b - 48)
 
 -- what another literal begins with
-abbrev pub word_mode : List Word → Equality → ℕ → Option Mode
+abbrev pub word_mode : List ByteString → Equality → ℕ → Option Mode
 word_mode p e b =
     if b == 34 then Some (mode.Text (text_of.Literal p e) false [])
     else (if b == 116 then Some (mode.Word fixed.True 1 (Done (equal_to p e (literal.Truth true))))
@@ -124,7 +124,7 @@ word_mode p e b =
     else (if b == 110 then Some (mode.Word fixed.Null 1 (Done (equal_to p e literal.Null))) else None)))
 
 -- what a literal begins with
-abbrev pub literal_mode : List Word → Operator → ℕ → Option Mode
+abbrev pub literal_mode : List ByteString → Operator → ℕ → Option Mode
 literal_mode p (Is e) b = if begins_number b then Some (number_mode p (Is e) b) else word_mode p e b
 literal_mode p (Compared c) b = if begins_number b then Some (number_mode p (Compared c) b) else None
 
@@ -134,12 +134,12 @@ may_be_marked call.Exists = false
 may_be_marked (call.Has s) = true
 
 -- what an argument begins with
-abbrev pub argument_mode : Search → List Word → ℕ → Option Mode
+abbrev pub argument_mode : Search → List ByteString → ℕ → Option Mode
 argument_mode search_for.Part p b = if b == 34 then Some (mode.Text (text_of.Part p) false []) else None
 argument_mode search_for.Pattern p b = if b == 114 then Some (mode.Mark p) else None
 
 -- what comes behind the path of a call
-abbrev pub behind_path : PathUse → List Word → Expected
+abbrev pub behind_path : PathUse → List ByteString → Expected
 behind_path path_of.Compared p = wants.Operator p
 behind_path (path_of.Called call.Exists) p = wants.Close (predicate.Exists p)
 behind_path (path_of.Called (call.Has s)) p = wants.Comma s p
@@ -196,7 +196,7 @@ in_word r w read behind b =
     then Ok (if read + 1 == length (letters_of w) then arrived r behind else at r (mode.Word w (read + 1) behind)) else Err Refused
 
 -- a byte in a path, by what it does there; no path has more than 31 names
-abbrev pub in_path : ℕ → Reader → PathUse → PathPlace → Word → List Word → ℕ → PathStep → Result Reader Stop
+abbrev pub in_path : ℕ → Reader → PathUse → PathPlace → ByteString → List ByteString → ℕ → PathStep → Result Reader Stop
 in_path most r use_of place name names b (path.Adds next) = Ok (at r (mode.Path use_of next (name ++ b ∷ []) names))
 in_path most r use_of place name names b (path.Passes next) = Ok (at r (mode.Path use_of next name names))
 in_path most r use_of place name names b path.Ends =
@@ -205,29 +205,29 @@ in_path most r use_of place name names b path.Refused =
     if may_end place && nat_lt (length names) 31 && nat_lt b 128 then behind_blanks most r (behind_path use_of (names ++ name ∷ [])) b else Err Refused
 
 -- a reader behind a text in quotes
-abbrev pub behind_text : Reader → TextUse → Word → Reader
+abbrev pub behind_text : Reader → TextUse → ByteString → Reader
 behind_text r (text_of.Literal p e) word = stated r (equal_to p e (literal.Words word))
 behind_text r (text_of.Part p) word = at r (mode.Expects (wants.Close (predicate.Contains p word)))
 
 -- a byte in a text, with another byte or none in its place
-abbrev pub with_escape : Reader → TextUse → Word → Option ℕ → Result Reader Stop
+abbrev pub with_escape : Reader → TextUse → ByteString → Option ℕ → Result Reader Stop
 with_escape r use_of held None = Err Refused
 with_escape r use_of held (Some e) = Ok (at r (mode.Text use_of false (held ++ e ∷ [])))
 
 -- a byte in a text in quotes
-abbrev pub in_text : Reader → TextUse → Bool → Word → ℕ → Result Reader Stop
+abbrev pub in_text : Reader → TextUse → Bool → ByteString → ℕ → Result Reader Stop
 in_text r use_of true held b = with_escape r use_of held (escaped b)
 in_text r use_of false held b =
     if b == 34 then Ok (behind_text r use_of held)
     else (if b == 92 then Ok (at r (mode.Text use_of true held)) else Ok (at r (mode.Text use_of false (held ++ b ∷ []))))
 
 -- the predicate of a pattern; a reader that keeps none has a `contains` in its place
-abbrev pub sought : Bool → List Word → Word → Predicate
+abbrev pub sought : Bool → List ByteString → ByteString → Predicate
 sought true p pattern = predicate.Matches p pattern
 sought false p pattern = predicate.Contains p pattern
 
 -- a byte in a pattern
-abbrev pub in_pattern : Reader → List Word → Word → ℕ → Result Reader Stop
+abbrev pub in_pattern : Reader → List ByteString → ByteString → ℕ → Result Reader Stop
 in_pattern r p held b =
     if b == 39 then Ok (at r (mode.Expects (wants.Close (sought r.keeps p held)))) else Ok (at r (mode.Pattern p (held ++ b ∷ [])))
 
@@ -236,7 +236,7 @@ abbrev pub behind_operand : Reader → ℕ → Result Reader Stop
 behind_operand r b = if is_blank b then Ok (at r (mode.Expects wants.Joint)) else joint r b
 
 -- a byte in a whole number
-abbrev pub in_whole : Reader → List Word → Operator → Bool → ℕ → ℕ → Result Reader Stop
+abbrev pub in_whole : Reader → List ByteString → Operator → Bool → ℕ → ℕ → Result Reader Stop
 in_whole r p o negative size b =
     if is_digit b then (if (not (size == 0)) && fits negative (10 * size + (b - 48)) then Ok (at r (mode.Whole p o negative (10 * size + (b - 48)))) else Err Refused)
     else behind_operand (stated r (with_number p o (signed negative size))) b
@@ -267,7 +267,7 @@ abbrev pub step : ℕ → Reader → ℕ → Result Reader Stop
 step most r b = moved most r r.mode b
 
 -- the bytes that a reader holds of a name, a text or a pattern
-abbrev pub held_by : Mode → Word
+abbrev pub held_by : Mode → ByteString
 held_by (mode.Path use_of place name names) = name
 held_by (mode.Text use_of behind_backslash held) = held
 held_by (mode.Pattern p held) = held
@@ -281,7 +281,7 @@ Stops outcome (BadPattern n) = ⊥
 Stops outcome WantOfMemory = Unit {0}
 
 -- the same at the end of a pattern: one that is kept may be refused
-abbrev pub StopsPattern : Bool → Word → Stop → Type 0
+abbrev pub StopsPattern : Bool → ByteString → Stop → Type 0
 StopsPattern keeps held (BadPattern n) = (keeps ≡ true) × (n ≡ length held) × IsRefused held
 StopsPattern keeps held WantOfMemory = Unit {0}
 StopsPattern keeps held stop = ⊥

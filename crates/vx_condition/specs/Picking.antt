@@ -3,7 +3,7 @@ use Rattle.std.specs.Prelude.{ℕ, ◌+◌, ◌-◌, ◌^◌, ◌%◌, ◌==◌,
 use Rattle.std.specs.List.{list_any}
 use Rattle.std.specs.Ordering.{is_eq}
 use Rattle.vx_value.specs.Datum.{Datum, NamedDatum, named_of}
-use Rattle.vx_value.specs.Texts.{Word, same_text}
+use Rattle.vx_value.specs.Texts.{ByteString, same_text}
 use Rattle.vx_value.specs.Events.{value_at}
 use Rattle.vx_value.specs.Orders.{datum_cmp, named_cmp}
 use Rattle.vx_value.specs.declared.event.Event.{Event}
@@ -59,7 +59,7 @@ same_key (fields fs) (fields gs) = is_eq (named_cmp (named_of fs) (named_of gs))
 same_key k l = false
 
 -- the key of the values at paths
-abbrev pub key_at : List (List Word) → Event → Key
+abbrev pub key_at : List (List ByteString) → Event → Key
 key_at paths e = values (map (λ path. value_at e.fields path) paths)
 
 -- the key of an event

@@ -10,13 +10,13 @@ use Rattle.vx_condition.specs.declared.literal.Literal.TheVariants as literal
 use Rattle.vx_condition.specs.declared.predicate.Predicate.{Predicate}
 use Rattle.vx_condition.specs.declared.predicate.Predicate.TheVariants.{Equal, Different, Compared, Exists, Contains, Matches}
 
-abbrev Word : Type 0
-Word = List ℕ
+abbrev ByteString : Type 0
+ByteString = List ℕ
 
-abbrev coded_word : Coded Word
+abbrev coded_word : Coded ByteString
 coded_word = coded_list coded_ℕ
 
-abbrev coded_path : Coded (List Word)
+abbrev coded_path : Coded (List ByteString)
 coded_path = coded_list coded_word
 
 abbrev number_of : Comparison → ℕ
@@ -41,7 +41,7 @@ abbrev coded_comparison : Coded Comparison
 coded_comparison = code_by ℕ coded_ℕ number_of comparison_at comparison_at-number_of
 
 abbrev LiteralParts : Type 0
-LiteralParts = Unit {0} ⊎ (Bool ⊎ (ℤ ⊎ Word))
+LiteralParts = Unit {0} ⊎ (Bool ⊎ (ℤ ⊎ ByteString))
 
 abbrev literal_parts : Literal → LiteralParts
 literal_parts literal.Null = inl tt
@@ -65,7 +65,7 @@ abbrev coded_literal : Coded Literal
 coded_literal = code_by LiteralParts (coded⊎ coded_unit (coded⊎ coded_bool (coded⊎ coded_ℤ coded_word))) literal_parts literal_at literal_at-parts
 
 abbrev Parts : Type 0
-Parts = (List Word × Literal) ⊎ ((List Word × Literal) ⊎ ((List Word × (Comparison × ℤ)) ⊎ (List Word ⊎ ((List Word × Word) ⊎ (List Word × Word)))))
+Parts = (List ByteString × Literal) ⊎ ((List ByteString × Literal) ⊎ ((List ByteString × (Comparison × ℤ)) ⊎ (List ByteString ⊎ ((List ByteString × ByteString) ⊎ (List ByteString × ByteString)))))
 
 abbrev coded_parts : Coded Parts
 coded_parts =

@@ -1,7 +1,7 @@
 -- What reduce puts out, by all that it was given so far. What it was given is told with the latest first.
 use Rattle.std.specs.Prelude.{ℕ, ◌+◌, ◌-◌, ◌==◌, ◌&&◌, nat_le, Bool, false, not, Option, Some, None, List, [], ◌∷◌, ◌++◌, length, map, flat_map, filter, if◌then◌else◌}
 use Rattle.std.specs.List.{list_any}
-use Rattle.vx_value.specs.Texts.{Word, is_empty}
+use Rattle.vx_value.specs.Texts.{ByteString, is_empty}
 use Rattle.vx_value.specs.declared.event.Event.{Event}
 use Rattle.vx_condition.specs.Steps.{Test, Step, comes, ticks, ends}
 use Rattle.vx_condition.specs.Picking.{Key, key_at, same_key, held}
@@ -10,7 +10,7 @@ use Rattle.vx_condition.specs.declared.strategy.Strategy.{Strategy}
 
 -- how it is set: paths that tell groups apart, the two conditions, the two periods in milliseconds, and strategies
 pub record Settings : Type 0 where
-  pub group_by : List (List Word)
+  pub group_by : List (List ByteString)
   pub starts_when : Test
   pub ends_when : Test
   pub expire_after_ms : ℕ

@@ -1,6 +1,6 @@
 -- What a text makes of a reader.
 use Rattle.std.specs.Prelude.{ℕ, Bool, Result, Ok, Err, List, [], ◌∷◌, ◌++◌}
-use Rattle.vx_value.specs.Texts.{Word}
+use Rattle.vx_value.specs.Texts.{ByteString}
 use Rattle.vx_condition.specs.Trees as tree
 use Rattle.vx_condition.specs.Trees.{Term, negated, bracketed, Conjunction, no_term, term, Disjunction, no_branch, branch}
 use Rattle.vx_condition.specs.declared.frame.Frame.{Frame}
@@ -18,7 +18,7 @@ go_on (Ok r) further = further r
 go_on (Err stop) further = Err stop
 
 -- what a text makes of a reader that opens so many levels at most
-abbrev pub run : ℕ → Reader → Word → Result Reader Stop
+abbrev pub run : ℕ → Reader → ByteString → Result Reader Stop
 run most r [] = Ok r
 run most r (b ∷ text) = go_on (step most r b) (λ next. run most next text)
 
@@ -36,7 +36,7 @@ settled (Ok r) = Ok (settle_at r r.mode)
 settled (Err stop) = Err stop
 
 -- what a whole text makes of a reader
-abbrev pub out : ℕ → Reader → Word → Result Reader Stop
+abbrev pub out : ℕ → Reader → ByteString → Result Reader Stop
 out most r text = settled (run most r text)
 
 -- a predicate as a reader keeps it

@@ -1,6 +1,6 @@
 -- What a reader needs of its place, why it stops there, and what it has read at the end.
 use Rattle.std.specs.Prelude.{◌≡◌, ℕ, ◌<◌, Bool, true, Option, Some, None, Err, List, [], ◌∷◌, length}
-use Rattle.vx_value.specs.Texts.{Word}
+use Rattle.vx_value.specs.Texts.{ByteString}
 use Rattle.vx_condition.specs.Trees as tree
 use Rattle.vx_condition.specs.Moves.{moved, fits, signed, with_number, with_term, all_branches}
 use Rattle.vx_condition.specs.Patterns.{IsRefused}
@@ -18,8 +18,8 @@ HasSize m = Unit {0}
 
 -- a byte ends a pattern that is kept, and that `regex` refuses
 pub record EndsRefused (keeps : Bool) (m : Mode) (b n : ℕ) : Type 0 where
-  pub path : List Word
-  pub pattern : Word
+  pub path : List ByteString
+  pub pattern : ByteString
   pub there : m ≡ mode.Pattern path pattern
   pub ended : b ≡ 39
   pub kept : keeps ≡ true

@@ -14,7 +14,7 @@ use Rattle.vx_record.specs.Moving.{IsConserved}
 use Rattle.vx_record.specs.Sending.{IsOldest}
 use Rattle.vx_record.proofs.Counts.{count-append, put_count, put_count-append}
 use Rattle.vx_record.proofs.Changes.{only-self, parcels_after, put_at, same_place_is, stands_once, without-all, without-none}
-use Rattle.vx_record.proofs.Hands.{AreAt, not_there}
+use Rattle.vx_record.proofs.HeldCopies.{AreAt, not_there}
 use Rattle.vx_record.proofs.OnePlace.{conserved}
 use Rattle.vx_counts.specs.Spends.{WasPut}
 use Rattle.vx_counts.specs.Begun.{is_held_of, AreBegun, EachBegun, IsHeldBySome, IsLastAt, LeavesBegun}

@@ -17,7 +17,7 @@ use Rattle.vx_record.proofs.OnePlace.{conserved}
 use Rattle.vx_counts.specs.Spends.{WasPut}
 use Rattle.vx_counts.specs.Answers.{WereTaken}
 use Rattle.vx_counts.specs.Begun.{IsBegun, AreBegun}
-use Rattle.vx_counts.specs.Laws.{DroppedWhole, DroppedBegun, FirstOfTaken}
+use Rattle.vx_counts.specs.Laws.{DroppedComplete, DroppedBegun, FirstOfTaken}
 use Rattle.vx_record.proofs.Counts.{count-append}
 use Rattle.vx_record.proofs.SpentParcels.{count_puts-append}
 use Rattle.vx_counts.proofs.Once.{itself, put_once}
@@ -102,8 +102,8 @@ whole_begun h i (copies ∷ rest) kept taken = (
   whole_begun h i rest kept taken.1,
 )
 
-pub dropped_whole : DroppedWhole
-dropped_whole h i parcels legal taken = dropped_begun h i parcels legal (whole_begun h i parcels (conserved h legal) taken)
+pub dropped_complete : DroppedComplete
+dropped_complete h i parcels legal taken = dropped_begun h i parcels legal (whole_begun h i parcels (conserved h legal) taken)
 
 pub first_of_taken : FirstOfTaken
 first_of_taken h i c rest legal was = (first_is h i c rest was, λ d l. other_is h i c d rest (conserved h legal) was l)

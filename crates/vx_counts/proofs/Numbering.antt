@@ -87,14 +87,14 @@ pub one_owner : OneOwner
 one_owner h i j b legal of_i of_j = owner h i j b (numbered h legal) of_i of_j
 
 -- what yields a birth is a source
-pub bearer_is : (h : Record) (i : ℕ) (y : Yield) → IsLegal h → yield h i ≡ Some y → source_at h i ≡ true
-bearer_is [] i y legal is = absurd (cc)
-bearer_is (Read j stream took ∷ h) i y legal is = go (j == i) refl is
+pub creator_is : (h : Record) (i : ℕ) (y : Yield) → IsLegal h → yield h i ≡ Some y → source_at h i ≡ true
+creator_is [] i y legal is = absurd (cc)
+creator_is (Read j stream took ∷ h) i y legal is = go (j == i) refl is
   where
     go : (b : Bool) → (j == i) ≡ b → (if b then Some (yield_of h i stream took) else None) ≡ Some y → source_at h i ≡ true
     go true own some = let same : j ≡ i = grind (arith, nat_tests) in subst (λ (k : ℕ). source_at h k ≡ true) same legal.0.row.turn.source
     go false other some = absurd (cc)
-bearer_is (e ∷ h) i y legal is = absurd (cc)
+creator_is (e ∷ h) i y legal is = absurd (cc)
 
 -- and so is whose batch one is
 pub owner_is : (h : Record) (i b : ℕ) → IsLegal h → is_batch_of h i b ≡ true → source_at h i ≡ true
@@ -107,6 +107,6 @@ owner_is (Install version plan once instances now ∷ h) i b legal is =
 owner_is (Born j b' place copies events waits stream end ∷ h) i b legal is =
     elim (born-cases h i j b b' (record { batch = b'; waits = waits; stream = stream; end = end }) refl is) [
       | inl old ↦ owner_is h i b legal.1 old
-      | inr new ↦ subst (λ (k : ℕ). source_at h k ≡ true) new.0 (bearer_is h j (record { events = events; stream = stream; end = end }) legal.1 legal.0.row.yields)
+      | inr new ↦ subst (λ (k : ℕ). source_at h k ≡ true) new.0 (creator_is h j (record { events = events; stream = stream; end = end }) legal.1 legal.0.row.yields)
     ]
 owner_is (e ∷ h) i b legal is = owner_is h i b legal.1 (none_more h i b is)

@@ -4,7 +4,7 @@ use Rattle.std.specs.Prelude.{if◌then◌else◌, ◌==◌, count_by}
 use Rattle.std.proofs.lemmas.Bool.Decides.{nat_tests}
 use Rattle.vx_ends.specs.declared.position.Position.{Position}
 use Rattle.vx_ends.specs.declared.trouble.Reply.{Reply}
-use Rattle.vx_value.specs.Texts.{Word}
+use Rattle.vx_value.specs.Texts.{ByteString}
 use Rattle.vx_value.specs.declared.event.Event.{Event}
 use Rattle.vx_plan.specs.declared.class.Class.{Class}
 use Rattle.vx_plan.specs.declared.class.Class.TheVariants.{Source, Transform, Sink}
@@ -38,7 +38,7 @@ use Rattle.vx_counts.specs.Meets.{Meets}
 use Rattle.vx_counts.proofs.Once.{itself}
 use Rattle.vx_counts.proofs.Passing.{own_first, unread_by, newest_by, newest_none, held_by, held_none}
 use Rattle.vx_counts.proofs.Classes.{by_class, source_is, transform_is, sink_is, taker_is, tally_is}
-use Rattle.vx_counts.proofs.Numbering.{bearer_is, owner_is}
+use Rattle.vx_counts.proofs.Numbering.{creator_is, owner_is}
 use Rattle.vx_record.proofs.OnePlace.{conserved}
 use Rattle.vx_record.proofs.Answerers.{answerer}
 use Rattle.vx_counts.proofs.DueEnds.{confirms_all}
@@ -104,7 +104,7 @@ born_kept h i b place stream end copies made waits old events n k kept is_events
     birth = record { batch = b; waits = waits; stream = stream; end = end }
 
     class : class_at h i ≡ Some Source
-    class = source_is h i (bearer_is h i (record { events = made; stream = stream; end = end }) kept.1 kept.0.row.yields)
+    class = source_is h i (creator_is h i (record { events = made; stream = stream; end = end }) kept.1 kept.0.row.yields)
 
 -- what a notice adds to its owner's counts
 abbrev noted_as : BatchStatus → Bool → Tally
@@ -164,7 +164,7 @@ answer_kept h i made discarded keeps old sent dropped n k kept is_sent is_droppe
     class : class_at h i ≡ Some Transform
     class = transform_is h i (answerer h i made discarded keeps kept)
 
-pub attempt_kept : (h : Record) (i : ℕ) (copies : List ℕ) (gave : Word) (reply : Reply) (old : Tally) (bytes n k : ℕ) → IsLegal (Attempt i copies gave reply ∷ h) →
+pub attempt_kept : (h : Record) (i : ℕ) (copies : List ℕ) (gave : ByteString) (reply : Reply) (old : Tally) (bytes n k : ℕ) → IsLegal (Attempt i copies gave reply ∷ h) →
     bytes ≡ capped (length gave) → n ≡ capped (old.attempts + 1) → k ≡ capped (old.bytes + bytes) → Meets i h old →
     Meets i (Attempt i copies gave reply ∷ h) (record old { attempts = n; bytes = k })
 attempt_kept h i copies gave reply old bytes n k kept is_bytes is_n is_k =

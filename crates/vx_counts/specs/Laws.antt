@@ -99,8 +99,8 @@ LastTakenFirst =
     (h : Record) (i : ℕ) (left : List ℕ) (c : ℕ) → IsLegal h → IsBegun h (Held i) (left ++ c ∷ []) → is_empty left ≡ is_first h i c
 
 -- where what is discarded is parcels that the instance took, each whole, it counts once for each
-abbrev pub DroppedWhole : Type 0
-DroppedWhole =
+abbrev pub DroppedComplete : Type 0
+DroppedComplete =
     (h : Record) (i : ℕ) (parcels : List (List ℕ)) → IsLegal h → WereTaken h i parcels → count_by (is_first h i) (joined parcels) ≡ length parcels
 
 -- and where it is first parts of them

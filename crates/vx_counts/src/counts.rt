@@ -3,7 +3,7 @@ ghost use Rattle.vx_ends.specs.declared.position.Position.{Position};
 ghost use Rattle.vx_ends.specs.declared.trouble.Reply.{Reply};
 ghost use Rattle.vx_plan.specs.declared.class.Class.TheVariants.{Sink};
 ghost use Rattle.vx_status.specs.declared.outcome.Outcome.TheVariants.{NewestDropped, NoConsumer};
-ghost use Rattle.vx_value.specs.Texts.{Word};
+ghost use Rattle.vx_value.specs.Texts.{ByteString};
 ghost use Rattle.vx_value.specs.declared.event.Event.{Event};
 ghost use Rattle.vx_record.specs.declared.taken.Taken.{Taken};
 ghost use Rattle.vx_record.specs.declared.output.Output.{Output};
@@ -53,8 +53,8 @@ impl Counts {
         tally.undecodable = tally.undecodable.saturating_add(new.undecodable);
     }
 
-    /// A source bore a batch of so many events.
-    pub fn bore(&mut self, events: u64)
+    /// A source created a batch of so many events.
+    pub fn created_batch(&mut self, events: u64)
         ensures { (h : Record) → (i b place stream end : ℕ) → (copies : List ℕ) →
             (made : List Event) → (waits : Bool) →
             IsLegal (Born i b place copies made waits stream end ∷ h) →
@@ -111,7 +111,7 @@ impl Counts {
 
     /// A sink gave its port so many bytes.
     pub fn attempted(&mut self, bytes: u64)
-        ensures { (h : Record) → (i : ℕ) → (copies : List ℕ) → (gave : Word) → (reply : Reply) →
+        ensures { (h : Record) → (i : ℕ) → (copies : List ℕ) → (gave : ByteString) → (reply : Reply) →
             IsLegal (Attempt i copies gave reply ∷ h) → bytes ≡ capped (length gave) →
             Meets i h self.old.tally → Meets i (Attempt i copies gave reply ∷ h) self.new.tally }
     {

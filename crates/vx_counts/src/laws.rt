@@ -1,6 +1,6 @@
 //! The laws of kept counts. A law's function does nothing: what it ensures is proved.
 
-ghost use Rattle.vx_counts.specs.Laws.{OthersStay, EachCounted, CountedByOwn, LegalPlace, StandsPut, PutNow, PutStays, FirstOfTaken, BegunFirst, BegunStays, LastIsFirst, LastTakenFirst, DroppedWhole, DroppedBegun, ConfirmsAll, OneOwner, SourceIs, TransformIs, SinkIs, AllMet};
+ghost use Rattle.vx_counts.specs.Laws.{OthersStay, EachCounted, CountedByOwn, LegalPlace, StandsPut, PutNow, PutStays, FirstOfTaken, BegunFirst, BegunStays, LastIsFirst, LastTakenFirst, DroppedComplete, DroppedBegun, ConfirmsAll, OneOwner, SourceIs, TransformIs, SinkIs, AllMet};
 
 /// An entry leaves the counts of each instance that it doesn't count for; and it counts for an instance or leaves it be. One of
 /// another task counts only as a notice, or as a copy that was dropped as the newest.
@@ -34,7 +34,7 @@ pub fn parts()
 
 /// What a transform discards counts once for each parcel that it took, where it discards whole parcels, or what is left of them.
 pub fn discards()
-    ensures whole { DroppedWhole }
+    ensures whole { DroppedComplete }
     ensures begun { DroppedBegun }
 {}
 

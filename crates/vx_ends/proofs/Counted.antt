@@ -1,7 +1,7 @@
 -- What two calls count together.
 use Rattle.std.proofs.Common.{◌≡◌, ◌∙◌, inl, inr, ℕ, ◌≤◌, Bool, true, false, refl, subst, arith}
 use Rattle.std.specs.Prelude.{◌&&◌, ◌||◌}
-use Rattle.vx_ends.specs.Told.{Told, Rose, Happened, Counts, CountsBy, raised}
+use Rattle.vx_ends.specs.Observation.{Observation, Rose, Happened, Counts, CountsBy, raised}
 
 -- what happened in one of two calls
 abbrev pub either : Happened → Happened → Happened
@@ -44,7 +44,7 @@ pub record Apart (a b : Happened) : Type 0 where
   pub finished : (b.finished && a.finished) ≡ false
   pub confirmed : (b.confirmed && a.confirmed) ≡ false
 
-pub all_both : (a b : Happened) (old mid new : Told) → Apart a b → CountsBy a old mid → CountsBy b mid new → CountsBy (either a b) old new
+pub all_both : (a b : Happened) (old mid new : Observation) → Apart a b → CountsBy a old mid → CountsBy b mid new → CountsBy (either a b) old new
 all_both a b old mid new apart one two = record {
   faults = counts_both old.exact mid.exact old.faults mid.faults new.faults a.failed b.failed one.exact apart.failed one.faults two.faults;
   refusals = counts_both old.exact mid.exact old.refusals mid.refusals new.refusals a.refused b.refused one.exact apart.refused one.refusals two.refusals;

@@ -1,6 +1,6 @@
 pub mod ScriptLemmas
 pub mod ScriptPassing
-pub mod ScriptTelling
+pub mod ScriptReporting
 pub mod ActsLemmas
 pub mod Counted
 pub mod ScriptsLemmas

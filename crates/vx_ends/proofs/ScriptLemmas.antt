@@ -4,7 +4,7 @@ use Rattle.std.proofs.lemmas.Grind.{common_steps}
 use Rattle.std.proofs.Math.Seq.{drop-cons, take-suc}
 use Rattle.vx_ends.specs.declared.step.Step.{Step}
 use Rattle.vx_ends.specs.declared.step.Step.TheVariants.{Bytes, StreamEnded, AllEnded, Idle, Fail}
-use Rattle.vx_ends.specs.Script.{part_told, part_left, has_ended, bytes_of, without, ends_of, is_nothing, passes_first, upcoming}
+use Rattle.vx_ends.specs.Script.{part_observed, part_left, has_ended, bytes_of, without, ends_of, is_nothing, passes_first, upcoming}
 
 pub has_ended-append : (stream : ℕ) (xs ys : List Step) → has_ended stream (xs ++ ys) ≡ (if has_ended stream xs then true else has_ended stream ys)
 has_ended-append stream [] ys = refl
@@ -66,13 +66,13 @@ part_left-zero (AllEnded ∷ steps) = refl
 part_left-zero (Idle ∷ steps) = refl
 part_left-zero (Fail ∷ steps) = refl
 
-pub part_told-zero : (steps : List Step) → part_told 0 steps ≡ []
-part_told-zero [] = refl
-part_told-zero (Bytes from bytes ∷ steps) = refl
-part_told-zero (StreamEnded from ∷ steps) = refl
-part_told-zero (AllEnded ∷ steps) = refl
-part_told-zero (Idle ∷ steps) = refl
-part_told-zero (Fail ∷ steps) = refl
+pub part_observed-zero : (steps : List Step) → part_observed 0 steps ≡ []
+part_observed-zero [] = refl
+part_observed-zero (Bytes from bytes ∷ steps) = refl
+part_observed-zero (StreamEnded from ∷ steps) = refl
+part_observed-zero (AllEnded ∷ steps) = refl
+part_observed-zero (Idle ∷ steps) = refl
+part_observed-zero (Fail ∷ steps) = refl
 
 -- the step at a place, before those behind it
 pub drop_next : (steps : List Step) (at : ℕ) (s : Step) → at < length steps → s ≡ get_or steps at s → drop at steps ≡ s ∷ drop (at + 1) steps
@@ -92,7 +92,7 @@ pub open_on : (stream at : ℕ) (s : Step) (steps : List Step) → at < length s
 open_on stream at s steps l e g h = rw (take_next steps at s l e) (grind (arith, has_ended-append stream (take at steps) (s ∷ [])))
 
 -- a part of a step ends nothing
-pub has_ended-part : (stream offset : ℕ) (xs steps : List Step) → has_ended stream (xs ++ part_told offset steps) ≡ has_ended stream xs
+pub has_ended-part : (stream offset : ℕ) (xs steps : List Step) → has_ended stream (xs ++ part_observed offset steps) ≡ has_ended stream xs
 has_ended-part stream offset xs [] = grind (arith, has_ended-append stream xs [])
 has_ended-part stream zero xs (Bytes from bytes ∷ steps) = grind (arith, has_ended-append stream xs [])
 has_ended-part stream (suc n) xs (Bytes from bytes ∷ steps) = grind (arith, has_ended-append stream xs (Bytes from (take (suc n) bytes) ∷ []))
@@ -108,15 +108,15 @@ is_nothing-drop (suc n) (b ∷ bytes) l = grind (arith, common_steps, is_nothing
 
 -- whether a step with bytes is passed over at a place
 pub passes-bytes : (steps : List Step) (at offset from : ℕ) (bytes : List ℕ) → at < length steps → Bytes from bytes ≡ get_or steps at (Bytes from bytes) →
-    passes_first (take at steps ++ part_told offset (drop at steps)) (part_left offset (drop at steps)) ≡ (if is_nothing (drop offset bytes) then true else has_ended from (take at steps))
+    passes_first (take at steps ++ part_observed offset (drop at steps)) (part_left offset (drop at steps)) ≡ (if is_nothing (drop offset bytes) then true else has_ended from (take at steps))
 passes-bytes steps at offset from bytes l e = rw (← has_ended-part from offset (take at steps) (drop at steps)) (rw (drop_next steps at (Bytes from bytes) l e) refl)
 
 -- whether the end of a stream is passed over at a place
 pub passes-end : (steps : List Step) (at offset from : ℕ) → at < length steps → StreamEnded from ≡ get_or steps at (StreamEnded from) →
-    passes_first (take at steps ++ part_told offset (drop at steps)) (part_left offset (drop at steps)) ≡ has_ended from (take at steps)
+    passes_first (take at steps ++ part_observed offset (drop at steps)) (part_left offset (drop at steps)) ≡ has_ended from (take at steps)
 passes-end steps at offset from l e = rw (← has_ended-part from offset (take at steps) (drop at steps)) (rw (drop_next steps at (StreamEnded from) l e) refl)
 
 -- a step that isn't passed over is of a stream that goes on
 pub live-bytes : (steps : List Step) (at offset from : ℕ) (bytes : List ℕ) → at < length steps → Bytes from bytes ≡ get_or steps at (Bytes from bytes) →
-    passes_first (take at steps ++ part_told offset (drop at steps)) (part_left offset (drop at steps)) ≡ false → has_ended from (take at steps) ≡ false
+    passes_first (take at steps ++ part_observed offset (drop at steps)) (part_left offset (drop at steps)) ≡ false → has_ended from (take at steps) ≡ false
 live-bytes steps at offset from bytes l e h = grind (arith, passes-bytes steps at offset from bytes l e)

@@ -4,7 +4,7 @@ use Rattle.vx_ends.specs.declared.act.Act.{Act}
 use Rattle.vx_ends.specs.declared.act.Act.TheVariants as act
 use Rattle.vx_ends.specs.declared.trouble.Trouble.{Trouble}
 use Rattle.vx_ends.specs.declared.trouble.Trouble.TheVariants as trouble
-pub use Rattle.vx_ends.specs.Told.{is_failed, is_refused, is_idle, raised}
+pub use Rattle.vx_ends.specs.Observation.{is_failed, is_refused, is_idle, raised}
 
 -- the act that is used next: past the last one it is to pass
 abbrev pub first_act : List Act → Act

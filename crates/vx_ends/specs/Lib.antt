@@ -1,4 +1,4 @@
-pub mod Told
+pub mod Observation
 pub mod Texts
 pub mod Script
 pub mod Acts

@@ -3,7 +3,7 @@ use Rattle.std.specs.Prelude.{ℕ, List, [], ◌++◌, Bool, true, false, Option
 use Rattle.vx_ends.specs.Acts.{first_act, later_acts, plain_answer, is_failed, raised}
 use Rattle.vx_ends.specs.declared.trouble.Trouble.{Trouble}
 use Rattle.vx_ends.specs.Script.{Progress, bytes_of, left_of, ends_of}
-use Rattle.vx_ends.specs.Told.{Told, Made, untold, made}
+use Rattle.vx_ends.specs.Observation.{Observation, Made, unobserved, made}
 use Rattle.vx_ends.specs.declared.act.Act.{Act}
 use Rattle.vx_ends.specs.declared.step.Step.{Step}
 use Rattle.vx_ends.specs.declared.position.Position.{Position}
@@ -53,12 +53,12 @@ closed_port spec steps acts = record {
 
 -- what a port tells that may have been made for something
 abbrev pub made_by : Option PortSpec → Made
-made_by None = untold
+made_by None = unobserved
 made_by (Some spec) = made spec
 
--- what such a port tells: everything
-abbrev pub told_by : Playing → Told
-told_by p = record {
+-- what is observed of such a port: everything
+abbrev pub observe : Playing → Observation
+observe p = record {
   taken = λ stream. Some (bytes_of stream p.script.past);
   left = λ stream. Some (left_of stream p.script);
   given = Some p.given;

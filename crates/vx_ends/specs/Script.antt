@@ -6,7 +6,7 @@ use Rattle.vx_ends.specs.declared.port.Took.{Took}
 use Rattle.vx_ends.specs.declared.port.Took.TheVariants as took
 use Rattle.vx_ends.specs.declared.trouble.Trouble.{Trouble}
 use Rattle.vx_ends.specs.declared.trouble.Trouble.TheVariants as trouble
-use Rattle.vx_ends.specs.Told.{piece_of, ended_by}
+use Rattle.vx_ends.specs.Observation.{piece_of, ended_by}
 
 -- How far a script was told.
 pub record Progress : Type 0 where
@@ -16,13 +16,13 @@ pub record Progress : Type 0 where
   pub rest : List Step
 
 -- the part of a first step that was told, where so many of its bytes were
-abbrev pub part_told : ℕ → List Step → List Step
-part_told offset [] = []
-part_told offset (Bytes from bytes ∷ steps) = if offset == 0 then [] else Bytes from (take offset bytes) ∷ []
-part_told offset (StreamEnded from ∷ steps) = []
-part_told offset (AllEnded ∷ steps) = []
-part_told offset (Idle ∷ steps) = []
-part_told offset (Fail ∷ steps) = []
+abbrev pub part_observed : ℕ → List Step → List Step
+part_observed offset [] = []
+part_observed offset (Bytes from bytes ∷ steps) = if offset == 0 then [] else Bytes from (take offset bytes) ∷ []
+part_observed offset (StreamEnded from ∷ steps) = []
+part_observed offset (AllEnded ∷ steps) = []
+part_observed offset (Idle ∷ steps) = []
+part_observed offset (Fail ∷ steps) = []
 
 -- the steps without the bytes of the first one that were told
 abbrev pub part_left : ℕ → List Step → List Step
@@ -36,7 +36,7 @@ part_left offset (Fail ∷ steps) = Fail ∷ steps
 -- how far a script was told, by the number of its steps and the bytes of the next one that were
 abbrev pub progress_of : List Step → ℕ → ℕ → Progress
 progress_of steps at offset = record {
-  past = take at steps ++ part_told offset (drop at steps);
+  past = take at steps ++ part_observed offset (drop at steps);
   rest = part_left offset (drop at steps);
 }
 
@@ -79,7 +79,7 @@ ends_of (Idle ∷ steps) = ends_of steps
 ends_of (Fail ∷ steps) = ends_of steps
 
 -- the same was told of each stream
-pub record SameTold (old new : List Step) : Type 0 where
+pub record SameObserved (old new : List Step) : Type 0 where
   pub closed : (stream : ℕ) → has_ended stream new ≡ has_ended stream old
   pub bytes : (stream : ℕ) → bytes_of stream new ≡ bytes_of stream old
   pub ends : ends_of new ≡ ends_of old
@@ -139,7 +139,7 @@ rest_after room (Idle ∷ steps) = steps
 rest_after room (Fail ∷ steps) = steps
 
 -- what a take changes of what was told: its piece is taken and no more left, and its stream may have ended
-pub record Tells (old new : Progress) (result : Result Took Trouble) (buffer : List ℕ) : Type 0 where
+pub record TakeChanges (old new : Progress) (result : Result Took Trouble) (buffer : List ℕ) : Type 0 where
   pub taken : (stream : ℕ) → bytes_of stream new.past ≡ bytes_of stream old.past ++ piece_of stream result buffer
   pub left : (stream : ℕ) → left_of stream old ≡ piece_of stream result buffer ++ left_of stream new
   pub ended : ends_of new.past ≡ ends_of old.past ++ ended_by result

@@ -1,9 +1,9 @@
--- What a port tells that may not be there.
+-- What is observed of a port that may not be there.
 use Rattle.std.specs.Prelude.{[], false, Option, Some, None}
-use Rattle.vx_ends.specs.Told.{Told, absent}
+use Rattle.vx_ends.specs.Observation.{Observation, absent}
 
 -- nothing
-abbrev pub silent : Told
+abbrev pub silent : Observation
 silent = record {
   taken = λ stream. None;
   left = λ stream. None;
@@ -22,7 +22,7 @@ silent = record {
   exact = false;
 }
 
--- what the port tells, if there is one
-abbrev pub told_if : {P : Type 0} → (P → Told) → Option P → Told
-told_if told_by None = silent
-told_if told_by (Some port) = told_by port
+-- what is observed of the port, if there is one
+abbrev pub observed_if : {P : Type 0} → (P → Observation) → Option P → Observation
+observed_if observe None = silent
+observed_if observe (Some port) = observe port

@@ -1,6 +1,6 @@
 ghost use Rattle.std.specs.Prelude.{◌≡◌, ℕ, ◌<◌, ◌++◌, List, length, OnOk, OnErr, min, max};
 ghost use Rattle.vx_ends.specs.Acts.{plain_answer, finish_answer, give_answer, AnswersOrWants, is_failed, is_refused, is_idle, raised};
-ghost use Rattle.vx_ends.specs.Told.{part_of, over_after};
+ghost use Rattle.vx_ends.specs.Observation.{part_of, over_after};
 
 use crate::act::Act;
 use crate::port::Took;

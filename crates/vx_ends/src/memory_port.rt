@@ -1,7 +1,7 @@
 ghost use Rattle.std.specs.Prelude.{◌≡◌, ◌≢◌, ◌<◌, ◌≤◌, ℕ, ◌++◌, length, take, IfOk, IsOk, IsTrue, OnOk, OnErr, false, None, not, ◌&&◌, is_ok};
 ghost use Rattle.vx_ends.specs.Acts.{first_act, later_acts, plain_answer, finish_answer, give_answer, AnswersOrWants, is_failed, is_refused, is_idle, raised};
 ghost use Rattle.vx_ends.specs.Script.{upcoming, answer_of, brought_by, rest_after};
-ghost use Rattle.vx_ends.specs.Told.{Grows, Shrinks, SameBytes, SameTelling, HasCause, HasIdle, HasRefusal, CountsBy, nothing, piece_of, part_of, ended_by, over_after, IsWithin, IsOfOpen, EndsAll, EndsStream};
+ghost use Rattle.vx_ends.specs.Observation.{Grows, Shrinks, SameBytes, TakeLeaves, HasCause, HasIdle, HasRefusal, CountsBy, nothing, piece_of, part_of, ended_by, over_after, IsWithin, IsOfOpen, EndsAll, EndsStream};
 
 use crate::act::ActList;
 use crate::acts::Acts;
@@ -106,9 +106,9 @@ impl MemoryPort {
 }
 
 impl Port for MemoryPort {
-    ghost use Rattle.vx_ends.specs.Playing.{told_by, start_answer, after_start, confirmed_after};
+    ghost use Rattle.vx_ends.specs.Playing.{observe, start_answer, after_start, confirmed_after};
 
-    ghost told = { told_by };
+    ghost observed = { observe };
 
     fn start(&mut self) -> Result<(), Trouble>
         ensures answer { result ≡ start_answer self.old }
@@ -117,8 +117,8 @@ impl Port for MemoryPort {
         ensures started { OnOk result (IsTrue self.new.started) }
         ensures closed { OnErr result (self.new.started ≡ self.old.started) }
         ensures again { IsTrue self.old.started →
-            IsOk result × (told_by self.new ≡ told_by self.old) }
-        ensures bytes { SameBytes (told_by self.old) (told_by self.new) }
+            IsOk result × (observe self.new ≡ observe self.old) }
+        ensures bytes { SameBytes (observe self.old) (observe self.new) }
         ensures cause { HasCause self.old.faults self.new.faults result }
         ensures unrefused { result ≢ Err Trouble.Refused }
         ensures idles { self.old.idles ≤ self.new.idles }
@@ -127,8 +127,8 @@ impl Port for MemoryPort {
             (record nothing {
               failed = is_failed result;
               started = is_ok result && not self.old.started;
-            }) (told_by self.old)
-            (told_by self.new) }
+            }) (observe self.old)
+            (observe self.new) }
     {
         if self.started {
             return Ok(());
@@ -163,25 +163,25 @@ impl Port for MemoryPort {
 
         ensures within { IfOk result (IsWithin (length into.old)) }
         ensures taken { (stream : ℕ) →
-            Grows ((told_by self.old).taken stream) ((told_by self.new).taken stream)
+            Grows ((observe self.old).taken stream) ((observe self.new).taken stream)
             (piece_of stream result into.new) }
         ensures left { (stream : ℕ) →
-            Shrinks ((told_by self.old).left stream) ((told_by self.new).left stream)
+            Shrinks ((observe self.old).left stream) ((observe self.new).left stream)
             (piece_of stream result into.new) }
-        ensures ended { (told_by self.new).ended ≡ (told_by self.old).ended ++ ended_by result }
-        ensures open { IfOk result (IsOfOpen (told_by self.old).ended) }
+        ensures ended { (observe self.new).ended ≡ (observe self.old).ended ++ ended_by result }
+        ensures open { IfOk result (IsOfOpen (observe self.old).ended) }
         ensures over { self.new.over ≡ over_after self.old.over result }
         ensures after_end { IsTrue self.old.over → IfOk result (λ took. took ≡ Took.AllEnded) }
-        ensures all_ended { IfOk result (EndsAll (told_by self.new)) }
-        ensures stream_ended { IfOk result (EndsStream (told_by self.new)) }
-        ensures rest { SameTelling (told_by self.old) (told_by self.new) }
+        ensures all_ended { IfOk result (EndsAll (observe self.new)) }
+        ensures stream_ended { IfOk result (EndsStream (observe self.new)) }
+        ensures rest { TakeLeaves (observe self.old) (observe self.new) }
         ensures cause { HasCause self.old.faults self.new.faults result }
         ensures idle { HasIdle self.old.idles self.new.idles result }
         ensures unrefused { result ≢ Err Trouble.Refused }
         ensures refusals { self.old.refusals ≤ self.new.refusals }
         ensures counts { CountsBy
-            (record nothing { failed = is_failed result; idle = is_idle result }) (told_by self.old)
-            (told_by self.new) }
+            (record nothing { failed = is_failed result; idle = is_idle result }) (observe self.old)
+            (observe self.new) }
     {
         let answer = self.script.take(into);
         self.over = has_ended_all(self.over, &answer);
@@ -205,17 +205,17 @@ impl Port for MemoryPort {
 
         ensures some { IfOk result (λ n. 0 < n) }
         ensures within { IfOk result (λ n. n ≤ length bytes.now) }
-        ensures given { Grows (told_by self.old).given (told_by self.new).given
+        ensures given { Grows (observe self.old).given (observe self.new).given
             (part_of result bytes.now) }
-        ensures rest { SameBytes (record (told_by self.old) { given = (told_by self.new).given })
-            (told_by self.new) }
+        ensures rest { SameBytes (record (observe self.old) { given = (observe self.new).given })
+            (observe self.new) }
         ensures started { self.new.started ≡ self.old.started }
         ensures cause { HasCause self.old.faults self.new.faults result }
         ensures refusal { HasRefusal self.old.refusals self.new.refusals result }
         ensures idles { self.old.idles ≤ self.new.idles }
         ensures counts { CountsBy
             (record nothing { failed = is_failed result; refused = is_refused result })
-            (told_by self.old) (told_by self.new) }
+            (observe self.old) (observe self.new) }
     {
         let act = self.acts.next();
         let answer = give_by(act, bytes, &mut self.given);
@@ -235,7 +235,7 @@ impl Port for MemoryPort {
               finishes = raised self.old.finishes (is_ok result);
             } }
 
-        ensures bytes { SameBytes (told_by self.old) (told_by self.new) }
+        ensures bytes { SameBytes (observe self.old) (observe self.new) }
         ensures started { self.new.started ≡ self.old.started }
         ensures cause { HasCause self.old.faults self.new.faults result }
         ensures refusal { HasRefusal self.old.refusals self.new.refusals result }
@@ -245,7 +245,7 @@ impl Port for MemoryPort {
               failed = is_failed result;
               refused = is_refused result;
               finished = is_ok result;
-            }) (told_by self.old) (told_by self.new) }
+            }) (observe self.old) (observe self.new) }
     {
         let answer = answer_finish(self.acts.next());
         self.faults = count_if(self.faults, has_failed(&answer));
@@ -266,11 +266,11 @@ impl Port for MemoryPort {
             } }
 
         ensures ok { OnOk result
-            (Grows (told_by self.old).confirmed (told_by self.new).confirmed positions.now) }
-        ensures err { OnErr result ((told_by self.new).confirmed ≡ (told_by self.old).confirmed) }
+            (Grows (observe self.old).confirmed (observe self.new).confirmed positions.now) }
+        ensures err { OnErr result ((observe self.new).confirmed ≡ (observe self.old).confirmed) }
         ensures rest { SameBytes
-            (record (told_by self.old) { confirmed = (told_by self.new).confirmed })
-            (told_by self.new) }
+            (record (observe self.old) { confirmed = (observe self.new).confirmed })
+            (observe self.new) }
         ensures started { self.new.started ≡ self.old.started }
         ensures cause { HasCause self.old.faults self.new.faults result }
         ensures unrefused { result ≢ Err Trouble.Refused }
@@ -278,7 +278,7 @@ impl Port for MemoryPort {
         ensures refusals { self.old.refusals ≤ self.new.refusals }
         ensures counts { CountsBy
             (record nothing { failed = is_failed result; confirmed = is_ok result })
-            (told_by self.old) (told_by self.new) }
+            (observe self.old) (observe self.new) }
     {
         let act = self.acts.next();
         let answer = confirm_by(self.alloc, act, positions, &mut self.confirmed);
@@ -291,11 +291,11 @@ impl Port for MemoryPort {
         ensures after { self.new ≡ record self.old { started = false } }
 
         ensures closed { self.new.started ≡ false }
-        ensures bytes { SameBytes (told_by self.old) (told_by self.new) }
+        ensures bytes { SameBytes (observe self.old) (observe self.new) }
         ensures faults { self.old.faults ≤ self.new.faults }
         ensures idles { self.old.idles ≤ self.new.idles }
         ensures refusals { self.old.refusals ≤ self.new.refusals }
-        ensures counts { CountsBy (nothing) (told_by self.old) (told_by self.new) }
+        ensures counts { CountsBy (nothing) (observe self.old) (observe self.new) }
     {
         self.started = false;
     }

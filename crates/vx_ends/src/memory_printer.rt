@@ -1,6 +1,6 @@
 ghost use Rattle.std.specs.Prelude.{◌≡◌, ◌≤◌, [], ◌++◌, Some, OnOk, OnErr, IsErr, true};
 ghost use Rattle.vx_ends.specs.Acts.{raised};
-ghost use Rattle.vx_ends.specs.Told.{Grows, Rose};
+ghost use Rattle.vx_ends.specs.Observation.{Grows, Rose};
 
 use crate::printer::Printer;
 use crate::trouble::Failed;

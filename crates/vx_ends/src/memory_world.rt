@@ -1,10 +1,10 @@
 ghost use Rattle.std.specs.Prelude.{◌≡◌, ◌≢◌, ◌<◌, ◌↔◌, ℕ, length, remove, slice_get, IfOk, IfSome, IfNone, OnOk, OnErr, IsErrOf, Some, None, [], ◌∷◌, reverse};
 ghost use Rattle.std.specs.Option.{option_copied};
 ghost use Rattle.vx_ends.specs.Acts.{is_failed, raised};
-ghost use Rattle.vx_ends.specs.Playing.{closed_port, told_by};
+ghost use Rattle.vx_ends.specs.Playing.{closed_port, observe};
 ghost use Rattle.vx_ends.specs.Scripts.{script_for, scripts_without, steps_of, acts_of};
 ghost use Rattle.vx_ends.specs.Texts.{text_at, IsTextAt};
-ghost use Rattle.vx_ends.specs.Told.{Grows, HasCause, IsFresh};
+ghost use Rattle.vx_ends.specs.Observation.{Grows, HasCause, IsFresh};
 ghost use Rattle.vx_ends.specs.declared.call.Call.TheVariants as call;
 
 use crate::act::ActList;
@@ -159,7 +159,7 @@ impl World for MemoryWorld {
         ensures err { OnErr result
             (self.new ≡ record self.old { calls = call.Port spec.now ∷ self.old.calls }) }
 
-        ensures fresh { IfOk result (λ port. IsFresh spec.now (told_by port)) }
+        ensures fresh { IfOk result (λ port. IsFresh spec.now (observe port)) }
         ensures texts { Some self.new.configs ≡ Some self.old.configs }
         ensures calls { Grows (Some (reverse self.old.calls)) (Some (reverse self.new.calls))
             (call.Port spec.now ∷ []) }

@@ -1,5 +1,5 @@
 ghost use Rattle.std.specs.Prelude.{◌≡◌, ◌≢◌, ℕ, ◌<◌, ◌≤◌, ◌++◌, length, IfOk, OnOk, OnErr, IsOk, IsTrue, false, not, ◌&&◌, is_ok};
-ghost use Rattle.vx_ends.specs.Told.{Grows, Shrinks, SameBytes, SameTelling, HasCause, HasIdle, HasRefusal, CountsBy, nothing, is_failed, is_refused, is_idle, piece_of, part_of, ended_by, over_after, IsWithin, IsOfOpen, EndsAll, EndsStream};
+ghost use Rattle.vx_ends.specs.Observation.{Grows, Shrinks, SameBytes, TakeLeaves, HasCause, HasIdle, HasRefusal, CountsBy, nothing, is_failed, is_refused, is_idle, piece_of, part_of, ended_by, over_after, IsWithin, IsOfOpen, EndsAll, EndsStream};
 
 use crate::port::{Port, Took};
 use crate::position::PositionList;
@@ -8,9 +8,9 @@ use crate::trouble::Trouble;
 /// A port that may not be there, as that of a component that has no device. Where there is none it is never started, nothing goes
 /// through it, and it tells nothing; a start and a confirm find no memory, the one answer that counts nothing.
 impl<P: Port> Port for Option<P> {
-    ghost use Rattle.vx_ends.specs.Silent.{told_if};
+    ghost use Rattle.vx_ends.specs.Silent.{observed_if};
 
-    ghost told = { told_if P.told };
+    ghost observed = { observed_if P.observed };
 
     fn start(&mut self) -> Result<(), Trouble> {
         match self {

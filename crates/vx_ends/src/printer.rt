@@ -1,5 +1,5 @@
 ghost use Rattle.std.specs.Prelude.{◌≡◌, ◌≤◌, ℕ, List, Option, OnOk, OnErr};
-ghost use Rattle.vx_ends.specs.Told.{Grows, Rose};
+ghost use Rattle.vx_ends.specs.Observation.{Grows, Rose};
 
 use crate::trouble::Failed;
 

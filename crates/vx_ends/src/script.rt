@@ -1,6 +1,6 @@
 ghost use Rattle.std.specs.Prelude.{◌≡◌, ℕ, ◌+◌, ◌<◌, ◌≤◌, [], ◌∷◌, ◌++◌, List, length, take, drop, min, IfOk, Ok, false};
-ghost use Rattle.vx_ends.specs.Script.{progress_of, has_ended, left_of, ends_of, SameTold, passes_first, upcoming, fitting, answer_of, brought_by, rest_after, Tells};
-ghost use Rattle.vx_ends.specs.Told.{IsWithin, IsOfOpen};
+ghost use Rattle.vx_ends.specs.Script.{progress_of, has_ended, left_of, ends_of, SameObserved, passes_first, upcoming, fitting, answer_of, brought_by, rest_after, TakeChanges};
+ghost use Rattle.vx_ends.specs.Observation.{IsWithin, IsOfOpen};
 
 use crate::port::Took;
 use crate::step::{Step, StepList};
@@ -44,7 +44,7 @@ impl Script {
             ≡ brought_by (length into.old) (upcoming self.old.past self.old.rest) }
         ensures rest { self.new.rest
             ≡ rest_after (length into.old) (upcoming self.old.past self.old.rest) }
-        ensures told { Tells self.old self.new result into.new }
+        ensures observed { TakeChanges self.old self.new result into.new }
         ensures within { IfOk result (IsWithin (length into.old)) }
         ensures live { IfOk result (IsOfOpen (ends_of self.old.past)) }
         ensures all_ended { result ≡ Ok Took.AllEnded → self.new.rest ≡ [] }
@@ -105,7 +105,7 @@ fn is_passed_at(steps: &[Step], place: Place) -> bool
 
 // The next place at which a step isn't passed over.
 fn live_place(steps: &[Step], from: Place) -> Place
-    ensures past { SameTold (progress_of steps.now from.step from.offset).past
+    ensures past { SameObserved (progress_of steps.now from.step from.offset).past
         (progress_of steps.now result.step result.offset).past }
     ensures rest { (progress_of steps.now result.step result.offset).rest
         ≡ upcoming (progress_of steps.now from.step from.offset).past
@@ -149,7 +149,7 @@ fn play(steps: &[Step], place: Place, into: &mut [u8]) -> (Result<Took, Trouble>
         ≡ brought_by (length into.old) (progress_of steps.now place.step place.offset).rest }
     ensures rest { (progress_of steps.now result.1.step result.1.offset).rest
         ≡ rest_after (length into.old) (progress_of steps.now place.step place.offset).rest }
-    ensures told { Tells (progress_of steps.now place.step place.offset)
+    ensures observed { TakeChanges (progress_of steps.now place.step place.offset)
         (progress_of steps.now result.1.step result.1.offset) result.0 into.new }
 {
     if place.step >= steps.len() {

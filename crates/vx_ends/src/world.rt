@@ -1,7 +1,7 @@
 ghost use Rattle.std.specs.Prelude.{◌≡◌, ◌≢◌, ℕ, List, [], ◌∷◌, Option, IfOk, Err};
 ghost use Rattle.vx_ends.specs.declared.call.Call.{Call};
 ghost use Rattle.vx_ends.specs.declared.call.Call.TheVariants as call;
-ghost use Rattle.vx_ends.specs.Told.{Grows, HasCause, IsFresh};
+ghost use Rattle.vx_ends.specs.Observation.{Grows, HasCause, IsFresh};
 ghost use Rattle.vx_ends.specs.Texts.{IsTextAt};
 ghost use Rattle.vx_ends.specs.declared.world.Config.{Config};
 
@@ -44,7 +44,7 @@ pub trait World: Drop {
 
     /// A closed port of that form, with counts of 0, through which nothing went yet.
     fn port(&mut self, spec: &PortSpec) -> Result<Self::Port, WantOfMemory>
-        ensures fresh { IfOk result (λ port. IsFresh spec.now (Self.Port.told port)) }
+        ensures fresh { IfOk result (λ port. IsFresh spec.now (Self.Port.observed port)) }
         ensures texts { texts self.new ≡ texts self.old }
         ensures calls { Grows (calls self.old) (calls self.new) (call.Port spec.now ∷ []) }
         ensures faults { faults self.new ≡ faults self.old };

@@ -1,6 +1,6 @@
 -- What a look at a file means at whose end a reader stands.
 use Rattle.std.specs.Prelude.{ℕ, Bool, false, nat_lt, not, ◌&&◌, ◌||◌, if◌then◌else◌, Option, Some, None}
-use Rattle.vx_ends_os.specs.declared.seen.Look.{Look}
+use Rattle.vx_ends_os.specs.declared.file_change.Look.{Look}
 use Rattle.vx_ends_os.specs.declared.place.Place.{Place}
 use Rattle.vx_ends_os.specs.Places.{next_of, anew}
 use Rattle.vx_ends_os.specs.Reading.{more}

@@ -1,16 +1,16 @@
--- What a port of this process tells.
+-- What is observed of a port of this process.
 use Rattle.std.specs.Prelude.{None, [], true}
-use Rattle.vx_ends.specs.Told.{Told, untold}
+use Rattle.vx_ends.specs.Observation.{Observation, unobserved}
 use Rattle.vx_ends_os.specs.declared.os_port.OsPort.{OsPort}
 
 -- its counts and states, and nothing of what went through it
-abbrev pub told_of : OsPort → Told
-told_of p = record {
+abbrev pub observed_of : OsPort → Observation
+observed_of p = record {
   taken = λ _. None;
   left = λ _. None;
   given = None;
   confirmed = None;
-  spec = untold;
+  spec = unobserved;
   ended = [];
   over = p.over;
   started = p.started;

@@ -1,11 +1,11 @@
 ghost use Rattle.std.specs.Prelude.{◌<◌, ◌≤◌, ◌^◌, length, IfOk, IfSome, IsSomeAnd, OnOk};
 ghost use Rattle.vx_ends_os.specs.Reading.{IsInRoom};
 
-use crate::drawn::Drawn;
 use crate::fault::{Fault, is_for_now};
 use crate::file_in::FileIn;
 use crate::file_out::FileOut;
 use crate::os_output::OsOutput;
+use crate::read_result::ReadResult;
 use std::io::{Read, Write};
 use std::rt::Stdin;
 use vx_ends::PositionList;
@@ -27,15 +27,15 @@ pub(crate) enum Device {
 }
 
 // Reads what comes next of standard input, by one call of the system.
-fn read(stdin: &mut Stdin, into: &mut [u8]) -> Result<Drawn, Fault>
+fn read(stdin: &mut Stdin, into: &mut [u8]) -> Result<ReadResult, Fault>
     requires { 0 < length into.old }
     ensures { IfOk result (IsInRoom (length into.old)) }
 {
     let room = into.len().min(MOST_READ);
     match stdin.read(&mut into[..room]) {
-        Ok(0) => Ok(Drawn::End),
-        Ok(n) => Ok(Drawn::Bytes(n as u32)),
-        Err(error) if is_for_now(error.kind()) => Ok(Drawn::Nothing),
+        Ok(0) => Ok(ReadResult::End),
+        Ok(n) => Ok(ReadResult::Bytes(n as u32)),
+        Err(error) if is_for_now(error.kind()) => Ok(ReadResult::Nothing),
         Err(_) => Err(Fault::Failed),
     }
 }
@@ -57,7 +57,7 @@ impl Device {
     }
 
     /// Takes what comes next into the front of the buffer, by one call of the system.
-    pub(crate) fn take(&mut self, into: &mut [u8]) -> Result<Drawn, Fault>
+    pub(crate) fn take(&mut self, into: &mut [u8]) -> Result<ReadResult, Fault>
         requires { 0 < length into.old }
         ensures within { IfOk result (IsInRoom (length into.old)) }
         ensures document { LetsSayNoMore self.old self.new }

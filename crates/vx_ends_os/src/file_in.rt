@@ -5,10 +5,10 @@ ghost use Rattle.vx_ends_os.specs.Looks.{after_look, behind_line, is_other};
 ghost use Rattle.vx_ends_os.specs.Reading.{IsInRoom, taken_of, more, after_read, after_call};
 
 use crate::checkpoint_file::CheckpointFile;
-use crate::drawn::Drawn;
 use crate::fault::{Fault, is_for_now};
+use crate::file_change::{FileChange, Look, is_successor};
 use crate::place::Place;
-use crate::seen::{Look, Seen, is_successor};
+use crate::read_result::ReadResult;
 use std::alloc::Global;
 use std::fs::File;
 use std::io::{Error, ErrorKind};
@@ -183,12 +183,12 @@ impl FileIn {
     }
 
     /// Takes what comes next, by one read.
-    pub(crate) fn take(&mut self, into: &mut [u8]) -> Result<Drawn, Fault>
+    pub(crate) fn take(&mut self, into: &mut [u8]) -> Result<ReadResult, Fault>
         requires { 0 < length into.old }
         ensures within { IfOk result (IsInRoom (length into.old)) }
         ensures taken { taken_of self.new.place ≡ after_call (taken_of self.old.place) result }
         ensures place { IfSome self.old.place (λ place. GoesOn place self.new.place) }
-        ensures end { result ≡ Ok Drawn.End → IsTrue self.old.once }
+        ensures end { result ≡ Ok ReadResult.End → IsTrue self.old.once }
         ensures document { SaysNoMore self.old self.new }
         ensures same { SameFile self.old self.new }
     {
@@ -206,9 +206,9 @@ impl FileIn {
             Ok(0) => self.at_end(place, into),
             Ok(n) => {
                 self.took(place, &into[..n]);
-                Ok(Drawn::Bytes(n as u32))
+                Ok(ReadResult::Bytes(n as u32))
             }
-            Err(error) if is_for_now(error.kind()) => Ok(Drawn::Nothing),
+            Err(error) if is_for_now(error.kind()) => Ok(ReadResult::Nothing),
             Err(_) => Err(Fault::Failed),
         }
     }
@@ -228,9 +228,9 @@ impl FileIn {
     }
 
     // Opens the file once it is there, and has bytes.
-    fn find(&mut self, place: Place) -> Result<Drawn, Fault>
+    fn find(&mut self, place: Place) -> Result<ReadResult, Fault>
         requires { self.old.place ≡ Some place }
-        ensures nothing { IfOk result (λ drawn. drawn ≡ Drawn.Nothing) }
+        ensures nothing { IfOk result (λ read_result. read_result ≡ ReadResult.Nothing) }
         ensures taken { taken_of self.new.place ≡ taken_of self.old.place }
         ensures place { GoesOn place self.new.place }
         ensures document { SaysNoMore self.old self.new }
@@ -239,7 +239,7 @@ impl FileIn {
         if self.is_there()? {
             self.open(place)?;
         }
-        Ok(Drawn::Nothing)
+        Ok(ReadResult::Nothing)
     }
 
     // Whether there is something at the path to be opened.
@@ -252,18 +252,18 @@ impl FileIn {
     }
 
     // Ends, waits for more or begins anew, where the open file was read to its end.
-    fn at_end(&mut self, place: Place, into: &mut [u8]) -> Result<Drawn, Fault>
+    fn at_end(&mut self, place: Place, into: &mut [u8]) -> Result<ReadResult, Fault>
         requires room { 0 < length into.old }
         requires place { self.old.place ≡ Some place }
         ensures within { IfOk result (IsInRoom (length into.old)) }
         ensures taken { taken_of self.new.place ≡ after_call (taken_of self.old.place) result }
         ensures place { GoesOn place self.new.place }
-        ensures end { (result ≡ Ok Drawn.End) ↔ IsTrue self.old.once }
+        ensures end { (result ≡ Ok ReadResult.End) ↔ IsTrue self.old.once }
         ensures document { SaysNoMore self.old self.new }
         ensures same { SameFile self.old self.new }
     {
         if self.once {
-            Ok(Drawn::End)
+            Ok(ReadResult::End)
         } else {
             let look = self.look();
             Ok(self.after_look(look, place, into))
@@ -285,7 +285,7 @@ impl FileIn {
 
     // Begins anew where the open file is shorter than what was read of it, and where another one was seen at the path for
     // the second time in a row; else waits for more.
-    fn after_look(&mut self, look: Option<Look>, place: Place, into: &mut [u8]) -> Drawn
+    fn after_look(&mut self, look: Option<Look>, place: Place, into: &mut [u8]) -> ReadResult
         requires room { 0 < length into.old }
         requires place { self.old.place ≡ Some place }
         ensures within { IsInRoom (length into.old) result }
@@ -297,25 +297,25 @@ impl FileIn {
         ensures file { self.new.file
             ≡ (if is_other (next_of place) look
             && self.old.succeeded then None else self.old.file) }
-        ensures goes_on { result ≢ Drawn.End }
+        ensures goes_on { result ≢ ReadResult.End }
         ensures document { SaysNoMore self.old self.new }
         ensures same { SameFile self.old self.new }
     {
-        match Seen::of(place.next(), look) {
-            Seen::Shorter => self.begin_anew(place, into),
-            Seen::Other if self.succeeded => {
+        match FileChange::of(place.next(), look) {
+            FileChange::Shorter => self.begin_anew(place, into),
+            FileChange::Other if self.succeeded => {
                 self.file = None;
                 self.begin_anew(place, into)
             }
-            seen => {
-                self.succeeded = seen == Seen::Other;
-                Drawn::Nothing
+            file_change => {
+                self.succeeded = file_change == FileChange::Other;
+                ReadResult::Nothing
             }
         }
     }
 
     // Begins anew at the front of a file. A line that is open ends before.
-    fn begin_anew(&mut self, mut place: Place, into: &mut [u8]) -> Drawn
+    fn begin_anew(&mut self, mut place: Place, into: &mut [u8]) -> ReadResult
         requires room { 0 < length into.old }
         requires place { self.old.place ≡ Some place }
         ensures within { IsInRoom (length into.old) result }
@@ -324,7 +324,7 @@ impl FileIn {
         ensures line { self.new.in_line ≡ false }
         ensures succeeded { self.new.succeeded ≡ false }
         ensures file { self.new.file ≡ self.old.file }
-        ensures goes_on { result ≢ Drawn.End }
+        ensures goes_on { result ≢ ReadResult.End }
         ensures document { SaysNoMore self.old self.new }
         ensures same { SameFile self.old self.new }
     {
@@ -338,9 +338,9 @@ impl FileIn {
         self.succeeded = false;
         self.checkpoint.forget();
         if was_in_line {
-            Drawn::Bytes(1)
+            ReadResult::Bytes(1)
         } else {
-            Drawn::Nothing
+            ReadResult::Nothing
         }
     }
 

@@ -6,19 +6,19 @@
 
 mod checkpoint_file;
 mod device;
-mod drawn;
 mod fault;
+mod file_change;
 mod file_in;
 mod file_out;
 mod held_streams;
-mod moved;
 mod os_clock;
 mod os_output;
 mod os_port;
 mod os_printer;
 mod os_world;
 mod place;
-mod seen;
+mod read_result;
+mod sendable;
 
 pub use held_streams::HeldStreams;
 pub use os_clock::OsClock;

@@ -1,10 +1,10 @@
 ghost use Rattle.std.specs.Prelude.{◌≡◌, ◌≢◌, ◌≤◌, ◌&&◌, not, Err, IsOk, IsTrue, OnOk, OnErr, is_ok, false};
-ghost use Rattle.vx_ends.specs.Told.{CountsBy, HasCause, Rose, SameBytes, is_failed, nothing, raised};
+ghost use Rattle.vx_ends.specs.Observation.{CountsBy, HasCause, Rose, SameBytes, is_failed, nothing, raised};
 ghost use Rattle.vx_ends_os.specs.Faults.{is_counted, trouble_of};
 
 use crate::device::Device;
-use crate::drawn::Drawn;
 use crate::fault::Fault;
+use crate::read_result::ReadResult;
 use vx_ends::{Port, PositionList, Took, Trouble};
 
 /// The most bytes that one give hands to the system.
@@ -75,29 +75,29 @@ impl OsPort {
 }
 
 impl Port for OsPort {
-    ghost use Rattle.vx_ends_os.specs.Ports.{told_of};
+    ghost use Rattle.vx_ends_os.specs.Ports.{observed_of};
 
-    ghost told = { told_of };
+    ghost observed = { observed_of };
 
     fn start(&mut self) -> Result<(), Trouble>
         // A port that is started stays the same, and so does its device.
-        ensures unchanged { IsTrue (told_of self.old).started → self.new ≡ self.old }
+        ensures unchanged { IsTrue (observed_of self.old).started → self.new ≡ self.old }
 
-        ensures started { OnOk result (IsTrue (told_of self.new).started) }
-        ensures closed { OnErr result ((told_of self.new).started ≡ (told_of self.old).started) }
-        ensures again { IsTrue (told_of self.old).started →
-            IsOk result × (told_of self.new ≡ told_of self.old) }
-        ensures bytes { SameBytes (told_of self.old) (told_of self.new) }
-        ensures cause { HasCause (told_of self.old).faults (told_of self.new).faults result }
+        ensures started { OnOk result (IsTrue (observed_of self.new).started) }
+        ensures closed { OnErr result ((observed_of self.new).started ≡ (observed_of self.old).started) }
+        ensures again { IsTrue (observed_of self.old).started →
+            IsOk result × (observed_of self.new ≡ observed_of self.old) }
+        ensures bytes { SameBytes (observed_of self.old) (observed_of self.new) }
+        ensures cause { HasCause (observed_of self.old).faults (observed_of self.new).faults result }
         ensures unrefused { result ≢ Err Trouble.Refused }
-        ensures idles { (told_of self.old).idles ≤ (told_of self.new).idles }
-        ensures refusals { (told_of self.old).refusals ≤ (told_of self.new).refusals }
+        ensures idles { (observed_of self.old).idles ≤ (observed_of self.new).idles }
+        ensures refusals { (observed_of self.old).refusals ≤ (observed_of self.new).refusals }
         ensures counts { CountsBy
             (record nothing {
               failed = is_failed result;
-              started = is_ok result && not (told_of self.old).started;
-            }) (told_of self.old)
-            (told_of self.new) }
+              started = is_ok result && not (observed_of self.old).started;
+            }) (observed_of self.old)
+            (observed_of self.new) }
     {
         if self.started {
             return Ok(());
@@ -117,12 +117,12 @@ impl Port for OsPort {
             return Ok(Took::AllEnded);
         }
         match self.device.take(into) {
-            Ok(Drawn::Bytes(n)) => Ok(Took::Bytes { stream: 0, n }),
-            Ok(Drawn::Nothing) => {
+            Ok(ReadResult::Bytes(n)) => Ok(Took::Bytes { stream: 0, n }),
+            Ok(ReadResult::Nothing) => {
                 self.idles = self.idles.saturating_add(1);
                 Ok(Took::Idle)
             }
-            Ok(Drawn::End) => {
+            Ok(ReadResult::End) => {
                 self.over = true;
                 Ok(Took::AllEnded)
             }

@@ -1,6 +1,6 @@
 ghost use Rattle.std.specs.Prelude.{◌≡◌, ◌≢◌, ◌∷◌, [], IfOk, OnOk, Err, Some, None};
 ghost use Rattle.vx_ends.specs.declared.call.Call.TheVariants as call;
-ghost use Rattle.vx_ends.specs.Told.{Grows, HasCause, IsFresh};
+ghost use Rattle.vx_ends.specs.Observation.{Grows, HasCause, IsFresh};
 ghost use Rattle.vx_ends_os.specs.Devices.{IsDeviceOf, StandsOn};
 
 use crate::device::Device;
@@ -91,7 +91,7 @@ impl World for OsWorld {
         // The port stands on what its form names.
         ensures device { IfOk result (StandsOn spec.now.form) }
 
-        ensures fresh { IfOk result (λ port. IsFresh spec.now (⟦<OsPort as Port>⟧.told port)) }
+        ensures fresh { IfOk result (λ port. IsFresh spec.now (⟦<OsPort as Port>⟧.observed port)) }
         ensures calls { Grows (Some (calls_of self.old)) (Some (calls_of self.new))
             (call.Port spec.now ∷ []) }
         ensures faults { faults_of self.new ≡ faults_of self.old }

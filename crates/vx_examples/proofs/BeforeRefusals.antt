@@ -29,7 +29,7 @@ ticked2_legal = (record { row = record { out = refl }; turn = refl; still = λ a
 
 pub ticked_host_legal : IsLegal ticked_host
 unfolding utf8_lossy utf8_valid_len is_utf8 chars port_list lib.Utf8.encode
-ticked_host_legal = (record { row = record { home = refl; unretired = refl; settled = refl; ready = inl refl; later = lit≤ tt; unpolled = refl }; turn = refl; still = λ a. cc }, ticked2_legal)
+ticked_host_legal = (record { row = record { unleased = refl; unretired = refl; settled = refl; ready = inl refl; later = lit≤ tt; unpolled = refl }; turn = refl; still = λ a. cc }, ticked2_legal)
 
 abbrev kept1 : Record
 kept1 = Answer 3 [] [] (8 ∷ []) ∷ after33
@@ -50,7 +50,7 @@ kept3 = Lease 0 0 0 0 ∷ kept2
 
 kept3_legal : IsLegal kept3
 unfolding utf8_lossy utf8_valid_len is_utf8 chars port_list lib.Utf8.encode
-kept3_legal = (record { row = record { home = refl; unretired = refl; settled = refl; ready = inl refl; later = lit≤ tt; unpolled = refl }; turn = refl; still = λ a. cc }, kept2_legal)
+kept3_legal = (record { row = record { unleased = refl; unretired = refl; settled = refl; ready = inl refl; later = lit≤ tt; unpolled = refl }; turn = refl; still = λ a. cc }, kept2_legal)
 
 abbrev kept4 : Record
 kept4 = Read 0 0 AllEnded ∷ kept3
@@ -71,15 +71,15 @@ kept6 = Retired 1 ∷ kept5
 
 kept6_legal : IsLegal kept6
 unfolding utf8_lossy utf8_valid_len is_utf8 chars port_list lib.Utf8.encode
-kept6_legal = (record { row = record { known = refl; home = refl; unretired = refl; port_closed = λ d. cc; over = inl refl }; turn = refl; still = λ a. cc }, kept5_legal)
+kept6_legal = (record { row = record { known = refl; unleased = refl; unretired = refl; port_closed = λ d. cc; over = inl refl }; turn = refl; still = λ a. cc }, kept5_legal)
 
 abbrev kept7 : Record
 kept7 = Retired 2 ∷ kept6
 
 kept7_legal : IsLegal kept7
 unfolding utf8_lossy utf8_valid_len is_utf8 chars port_list lib.Utf8.encode
-kept7_legal = (record { row = record { known = refl; home = refl; unretired = refl; port_closed = λ d. cc; over = inl refl }; turn = refl; still = λ a. cc }, kept6_legal)
+kept7_legal = (record { row = record { known = refl; unleased = refl; unretired = refl; port_closed = λ d. cc; over = inl refl }; turn = refl; still = λ a. cc }, kept6_legal)
 
 pub keeping_host_legal : IsLegal keeping_host
 unfolding utf8_lossy utf8_valid_len is_utf8 chars port_list lib.Utf8.encode
-keeping_host_legal = (record { row = record { home = refl; unretired = refl; settled = refl; ready = inl refl; later = lit≤ tt; unpolled = refl }; turn = refl; still = λ a. cc }, kept7_legal)
+keeping_host_legal = (record { row = record { unleased = refl; unretired = refl; settled = refl; ready = inl refl; later = lit≤ tt; unpolled = refl }; turn = refl; still = λ a. cc }, kept7_legal)

@@ -2,7 +2,7 @@
 use Rattle.std.proofs.Common.{◌≡◌, ◌≤◌, ◌++◌, List, [], ◌∷◌, codes, refl, lit≤, length, Some, IsTrue}
 use Rattle.std.specs.List.{list_all}
 use Rattle.vx_value.specs.Paths.{path_names}
-use Rattle.vx_value.specs.Texts.{Word}
+use Rattle.vx_value.specs.Texts.{ByteString}
 use Rattle.vx_condition.specs.Steps.{Test}
 use Rattle.vx_condition.specs.Trees.{stated, no_term, term, Disjunction, no_branch, branch}
 use Rattle.vx_condition.specs.Grammar.{Then, IsPathText, is_blank}
@@ -13,10 +13,10 @@ use Rattle.vx_condition.specs.declared.predicate.Predicate.TheVariants.{Equal}
 use Rattle.vx_record.specs.Transforms.{Means}
 
 -- a token and more, with blanks between
-then : {First More : Word → Type 0} {text : Word} (front blanks back : Word) → First front → IsTrue (list_all is_blank blanks) → More back → text ≡ front ++ (blanks ++ back) → Then First More text
+then : {First More : ByteString → Type 0} {text : ByteString} (front blanks back : ByteString) → First front → IsTrue (list_all is_blank blanks) → More back → text ≡ front ++ (blanks ++ back) → Then First More text
 then front blanks back first blank more whole = record { front = front; blanks = blanks; back = back; first = first; blank = blank; more = more; whole = whole }
 
-path : {names : List Word} (rest : Word) → path_names (46 ∷ rest) ≡ Some names → length names ≤ 31 → IsPathText names (46 ∷ rest)
+path : {names : List ByteString} (rest : ByteString) → path_names (46 ∷ rest) ≡ Some names → length names ≤ 31 → IsPathText names (46 ∷ rest)
 path rest named few = record { rest = rest; dot = refl; names = named; few = few }
 
 abbrev pub k_tree : Disjunction

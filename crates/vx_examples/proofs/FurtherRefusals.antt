@@ -10,7 +10,7 @@ use Rattle.vx_record.specs.declared.taken.Taken.TheVariants.{AllEnded}
 use Rattle.vx_record.specs.declared.entry.Entry.TheVariants.{Lease, Home, Read}
 use Rattle.vx_examples.specs.Waiting as waiting
 use Rattle.vx_examples.specs.Refused.{NeverLegal}
-use Rattle.vx_examples.specs.RefusedMore.{born_of_nothing, born_of_too_few, confirm_at_home, confirm_of_a_sink, retired_stranger, second_notice, push_to_a_later_stage, idle_of_a_sink, lost_at_home, split_after_an_abandon, attempt_of_nothing, closed_before_its_confirm, closed_with_a_parcel, closed_with_a_held_parcel, lease_before_its_notice, lease_without_its_birth, given_up_elsewhere, closed_at_home}
+use Rattle.vx_examples.specs.RefusedMore.{born_of_nothing, born_of_too_few, confirm_unleased, confirm_of_a_sink, retired_stranger, second_notice, push_to_a_later_stage, idle_of_a_sink, lost_unleased, split_after_an_abandon, attempt_of_nothing, closed_before_its_confirm, closed_with_a_parcel, closed_with_a_held_parcel, lease_before_its_notice, lease_without_its_birth, given_up_elsewhere, closed_unleased}
 use Rattle.vx_examples.proofs.Refusals.{never}
 
 born_of_nothing_is_refused : IsLegal born_of_nothing → ⊥
@@ -27,12 +27,12 @@ born_of_too_few_is_refused l = let e = l.0.row.one_each in cc
 pub never_born_of_too_few : NeverLegal born_of_too_few
 never_born_of_too_few = never born_of_too_few born_of_too_few_is_refused
 
-confirm_at_home_is_refused : IsLegal confirm_at_home → ⊥
+confirm_unleased_is_refused : IsLegal confirm_unleased → ⊥
 unfolding utf8_lossy utf8_valid_len is_utf8 chars port_list lib.Utf8.encode
-confirm_at_home_is_refused l = let e = l.0.row.out in cc
+confirm_unleased_is_refused l = let e = l.0.row.out in cc
 
-pub never_confirm_at_home : NeverLegal confirm_at_home
-never_confirm_at_home = never confirm_at_home confirm_at_home_is_refused
+pub never_confirm_unleased : NeverLegal confirm_unleased
+never_confirm_unleased = never confirm_unleased confirm_unleased_is_refused
 
 confirm_of_a_sink_is_refused : IsLegal confirm_of_a_sink → ⊥
 unfolding utf8_lossy utf8_valid_len is_utf8 chars port_list lib.Utf8.encode
@@ -69,12 +69,12 @@ idle_of_a_sink_is_refused l = let e = l.0.row.turn.source in cc
 pub never_idle_of_a_sink : NeverLegal idle_of_a_sink
 never_idle_of_a_sink = never idle_of_a_sink idle_of_a_sink_is_refused
 
-lost_at_home_is_refused : IsLegal lost_at_home → ⊥
+lost_unleased_is_refused : IsLegal lost_unleased → ⊥
 unfolding utf8_lossy utf8_valid_len is_utf8 chars port_list lib.Utf8.encode
-lost_at_home_is_refused l = let e = l.0.row.turn.out in cc
+lost_unleased_is_refused l = let e = l.0.row.turn.out in cc
 
-pub never_lost_at_home : NeverLegal lost_at_home
-never_lost_at_home = never lost_at_home lost_at_home_is_refused
+pub never_lost_unleased : NeverLegal lost_unleased
+never_lost_unleased = never lost_unleased lost_unleased_is_refused
 
 split_after_an_abandon_is_refused : IsLegal split_after_an_abandon → ⊥
 unfolding utf8_lossy utf8_valid_len is_utf8 chars port_list lib.Utf8.encode
@@ -132,9 +132,9 @@ given_up_elsewhere_is_refused l = let e = l.0.row.here in omega arith
 pub never_given_up_elsewhere : NeverLegal given_up_elsewhere
 never_given_up_elsewhere = never given_up_elsewhere given_up_elsewhere_is_refused
 
-closed_at_home_is_refused : IsLegal closed_at_home → ⊥
+closed_unleased_is_refused : IsLegal closed_unleased → ⊥
 unfolding utf8_lossy utf8_valid_len is_utf8 chars port_list lib.Utf8.encode
-closed_at_home_is_refused l = elim l.0.row.over [ inl done ↦ let e = done.0 in cc | inr gave_up ↦ cc gave_up ]
+closed_unleased_is_refused l = elim l.0.row.over [ inl done ↦ let e = done.0 in cc | inr gave_up ↦ cc gave_up ]
 
-pub never_closed_at_home : NeverLegal closed_at_home
-never_closed_at_home = never closed_at_home closed_at_home_is_refused
+pub never_closed_unleased : NeverLegal closed_unleased
+never_closed_unleased = never closed_unleased closed_unleased_is_refused

@@ -30,7 +30,7 @@ legal1 = (record { row = record { first = refl; zeroth = refl; accepted = joined
 
 pub legal2 : IsLegal after2
 unfolding utf8_lossy utf8_valid_len is_utf8 chars port_list lib.Utf8.encode
-legal2 = (record { row = record { home = refl; unretired = refl; settled = refl; ready = inl refl; later = lit≤ tt; unpolled = refl }; turn = refl; still = λ a. cc }, legal1)
+legal2 = (record { row = record { unleased = refl; unretired = refl; settled = refl; ready = inl refl; later = lit≤ tt; unpolled = refl }; turn = refl; still = λ a. cc }, legal1)
 
 pub legal3 : IsLegal after3
 unfolding utf8_lossy utf8_valid_len is_utf8 chars port_list lib.Utf8.encode
@@ -46,23 +46,23 @@ legal5 = (record { row = record { out = refl }; turn = refl; still = λ a. cc },
 
 pub legal6 : IsLegal after6
 unfolding utf8_lossy utf8_valid_len is_utf8 chars port_list lib.Utf8.encode
-legal6 = (record { row = record { split = record { home = refl; none_waits = refl; oldest = refl; on_ports = refl; same_event = refl; some = lit< tt; made = refl }; fits = lit≤ tt }; turn = refl; still = λ a. cc }, legal5)
+legal6 = (record { row = record { split = record { unleased = refl; none_waits = refl; oldest = refl; on_ports = refl; same_event = refl; some = lit< tt; made = refl }; fits = lit≤ tt }; turn = refl; still = λ a. cc }, legal5)
 
 pub legal7 : IsLegal after7
 unfolding utf8_lossy utf8_valid_len is_utf8 chars port_list lib.Utf8.encode
-legal7 = (record { row = record { home = refl; oldest = refl; room = refl }; turn = refl; still = λ a. cc }, legal6)
+legal7 = (record { row = record { unleased = refl; oldest = refl; room = refl }; turn = refl; still = λ a. cc }, legal6)
 
 pub legal8 : IsLegal after8
 unfolding utf8_lossy utf8_valid_len is_utf8 chars port_list lib.Utf8.encode
-legal8 = (record { row = record { split = record { home = refl; none_waits = refl; oldest = refl; on_ports = refl; same_event = refl; some = lit< tt; made = refl }; fits = lit≤ tt }; turn = refl; still = λ a. cc }, legal7)
+legal8 = (record { row = record { split = record { unleased = refl; none_waits = refl; oldest = refl; on_ports = refl; same_event = refl; some = lit< tt; made = refl }; fits = lit≤ tt }; turn = refl; still = λ a. cc }, legal7)
 
 pub legal9 : IsLegal after9
 unfolding utf8_lossy utf8_valid_len is_utf8 chars port_list lib.Utf8.encode
-legal9 = (record { row = record { home = refl; oldest = refl; room = refl }; turn = refl; still = λ a. cc }, legal8)
+legal9 = (record { row = record { unleased = refl; oldest = refl; room = refl }; turn = refl; still = λ a. cc }, legal8)
 
 pub legal10 : IsLegal after10
 unfolding utf8_lossy utf8_valid_len is_utf8 chars port_list lib.Utf8.encode
-legal10 = (record { row = record { home = refl; unretired = refl; settled = refl; ready = inl refl; later = lit≤ tt; unpolled = refl }; turn = refl; still = λ a. cc }, legal9)
+legal10 = (record { row = record { unleased = refl; unretired = refl; settled = refl; ready = inl refl; later = lit≤ tt; unpolled = refl }; turn = refl; still = λ a. cc }, legal9)
 
 pub legal11 : IsLegal after11
 unfolding utf8_lossy utf8_valid_len is_utf8 chars port_list lib.Utf8.encode
@@ -78,15 +78,15 @@ legal13 = (record { row = record { out = refl }; turn = refl; still = λ a. cc }
 
 pub legal14 : IsLegal after14
 unfolding utf8_lossy utf8_valid_len is_utf8 chars port_list lib.Utf8.encode
-legal14 = (record { row = record { split = record { home = refl; none_waits = refl; oldest = refl; on_ports = refl; same_event = refl; some = lit< tt; made = refl }; fits = lit≤ tt }; turn = refl; still = λ a. cc }, legal13)
+legal14 = (record { row = record { split = record { unleased = refl; none_waits = refl; oldest = refl; on_ports = refl; same_event = refl; some = lit< tt; made = refl }; fits = lit≤ tt }; turn = refl; still = λ a. cc }, legal13)
 
 pub legal15 : IsLegal after15
 unfolding utf8_lossy utf8_valid_len is_utf8 chars port_list lib.Utf8.encode
-legal15 = (record { row = record { home = refl; oldest = refl; room = refl }; turn = refl; still = λ a. cc }, legal14)
+legal15 = (record { row = record { unleased = refl; oldest = refl; room = refl }; turn = refl; still = λ a. cc }, legal14)
 
 pub legal16 : IsLegal after16
 unfolding utf8_lossy utf8_valid_len is_utf8 chars port_list lib.Utf8.encode
-legal16 = (record { row = record { home = refl; unretired = refl; settled = refl; ready = inl refl; later = lit≤ tt; unpolled = refl }; turn = refl; still = λ a. cc }, legal15)
+legal16 = (record { row = record { unleased = refl; unretired = refl; settled = refl; ready = inl refl; later = lit≤ tt; unpolled = refl }; turn = refl; still = λ a. cc }, legal15)
 
 pub legal17 : IsLegal after17
 unfolding utf8_lossy utf8_valid_len is_utf8 chars port_list lib.Utf8.encode
@@ -110,7 +110,7 @@ legal21 = (record { row = record { out = refl }; turn = refl; still = λ a. cc }
 
 pub legal22 : IsLegal after22
 unfolding utf8_lossy utf8_valid_len is_utf8 chars port_list lib.Utf8.encode
-legal22 = (record { row = record { home = refl; unretired = refl; settled = refl; ready = inr (record { sent = refl; due = record { rule = rule; follows = follows after21 refl; reached = refl } }); later = lit≤ tt; unpolled = refl }; turn = refl; still = λ a. cc }, legal21)
+legal22 = (record { row = record { unleased = refl; unretired = refl; settled = refl; ready = inr (record { sent = refl; due = record { rule = rule; follows = follows after21 refl; reached = refl } }); later = lit≤ tt; unpolled = refl }; turn = refl; still = λ a. cc }, legal21)
 
 pub legal23 : IsLegal after23
 unfolding utf8_lossy utf8_valid_len is_utf8 chars port_list lib.Utf8.encode
@@ -126,7 +126,7 @@ legal25 = (record { row = record { out = refl }; turn = refl; still = λ a. cc }
 
 pub legal26 : IsLegal after26
 unfolding utf8_lossy utf8_valid_len is_utf8 chars port_list lib.Utf8.encode
-legal26 = (record { row = record { home = refl; unretired = refl; settled = refl; ready = inl refl; later = lit≤ tt; unpolled = refl }; turn = refl; still = λ a. cc }, legal25)
+legal26 = (record { row = record { unleased = refl; unretired = refl; settled = refl; ready = inl refl; later = lit≤ tt; unpolled = refl }; turn = refl; still = λ a. cc }, legal25)
 
 pub legal27 : IsLegal after27
 unfolding utf8_lossy utf8_valid_len is_utf8 chars port_list lib.Utf8.encode
@@ -142,7 +142,7 @@ legal29 = (record { row = record { out = refl }; turn = refl; still = λ a. cc }
 
 pub legal30 : IsLegal after30
 unfolding utf8_lossy utf8_valid_len is_utf8 chars port_list lib.Utf8.encode
-legal30 = (record { row = record { home = refl; unretired = refl; settled = refl; ready = inl refl; later = lit≤ tt; unpolled = refl }; turn = refl; still = λ a. cc }, legal29)
+legal30 = (record { row = record { unleased = refl; unretired = refl; settled = refl; ready = inl refl; later = lit≤ tt; unpolled = refl }; turn = refl; still = λ a. cc }, legal29)
 
 pub legal31 : IsLegal after31
 unfolding utf8_lossy utf8_valid_len is_utf8 chars port_list lib.Utf8.encode
@@ -154,15 +154,15 @@ legal32 = (record { row = record { out = refl }; turn = refl; still = λ a. cc }
 
 pub legal33 : IsLegal after33
 unfolding utf8_lossy utf8_valid_len is_utf8 chars port_list lib.Utf8.encode
-legal33 = (record { row = record { split = record { home = refl; none_waits = refl; oldest = refl; on_ports = refl; same_event = refl; some = lit< tt; made = refl }; fits = lit≤ tt }; turn = refl; still = λ a. cc }, legal32)
+legal33 = (record { row = record { split = record { unleased = refl; none_waits = refl; oldest = refl; on_ports = refl; same_event = refl; some = lit< tt; made = refl }; fits = lit≤ tt }; turn = refl; still = λ a. cc }, legal32)
 
 pub legal34 : IsLegal after34
 unfolding utf8_lossy utf8_valid_len is_utf8 chars port_list lib.Utf8.encode
-legal34 = (record { row = record { home = refl; oldest = refl; room = refl }; turn = refl; still = λ a. cc }, legal33)
+legal34 = (record { row = record { unleased = refl; oldest = refl; room = refl }; turn = refl; still = λ a. cc }, legal33)
 
 pub legal35 : IsLegal after35
 unfolding utf8_lossy utf8_valid_len is_utf8 chars port_list lib.Utf8.encode
-legal35 = (record { row = record { home = refl; unretired = refl; settled = refl; ready = inl refl; later = lit≤ tt; unpolled = refl }; turn = refl; still = λ a. cc }, legal34)
+legal35 = (record { row = record { unleased = refl; unretired = refl; settled = refl; ready = inl refl; later = lit≤ tt; unpolled = refl }; turn = refl; still = λ a. cc }, legal34)
 
 pub legal36 : IsLegal after36
 unfolding utf8_lossy utf8_valid_len is_utf8 chars port_list lib.Utf8.encode
@@ -174,15 +174,15 @@ legal37 = (record { row = record { out = refl }; turn = refl; still = λ a. cc }
 
 pub legal38 : IsLegal after38
 unfolding utf8_lossy utf8_valid_len is_utf8 chars port_list lib.Utf8.encode
-legal38 = (record { row = record { known = refl; home = refl; unretired = refl; port_closed = λ d. cc; over = inl refl }; turn = refl; still = λ a. cc }, legal37)
+legal38 = (record { row = record { known = refl; unleased = refl; unretired = refl; port_closed = λ d. cc; over = inl refl }; turn = refl; still = λ a. cc }, legal37)
 
 pub legal39 : IsLegal after39
 unfolding utf8_lossy utf8_valid_len is_utf8 chars port_list lib.Utf8.encode
-legal39 = (record { row = record { home = refl; unretired = refl; settled = refl; ready = inl refl; later = lit≤ tt; unpolled = refl }; turn = refl; still = λ a. cc }, legal38)
+legal39 = (record { row = record { unleased = refl; unretired = refl; settled = refl; ready = inl refl; later = lit≤ tt; unpolled = refl }; turn = refl; still = λ a. cc }, legal38)
 
 pub legal40 : IsLegal after40
 unfolding utf8_lossy utf8_valid_len is_utf8 chars port_list lib.Utf8.encode
-legal40 = (record { row = record { sink = refl; out = refl; once = refl; all = refl; batch_closed = refl; waited = lit≤ tt; given = refl; whole = λ e. refl; swallowed = λ e. cc }; turn = refl; still = λ a. cc }, legal39)
+legal40 = (record { row = record { sink = refl; out = refl; once = refl; all = refl; batch_closed = refl; waited = lit≤ tt; given = refl; whole = λ e. refl; blackhole_ok = λ e. cc }; turn = refl; still = λ a. cc }, legal39)
 
 pub legal41 : IsLegal after41
 unfolding utf8_lossy utf8_valid_len is_utf8 chars port_list lib.Utf8.encode
@@ -210,7 +210,7 @@ legal46 = (record { row = record { out = refl }; turn = refl; still = λ a. cc }
 
 pub legal47 : IsLegal after47
 unfolding utf8_lossy utf8_valid_len is_utf8 chars port_list lib.Utf8.encode
-legal47 = (record { row = record { home = refl; unretired = refl; settled = refl; ready = inl refl; later = lit≤ tt; unpolled = refl }; turn = refl; still = λ a. cc }, legal46)
+legal47 = (record { row = record { unleased = refl; unretired = refl; settled = refl; ready = inl refl; later = lit≤ tt; unpolled = refl }; turn = refl; still = λ a. cc }, legal46)
 
 pub legal48 : IsLegal after48
 unfolding utf8_lossy utf8_valid_len is_utf8 chars port_list lib.Utf8.encode
@@ -222,11 +222,11 @@ legal49 = (record { row = record { out = refl }; turn = refl; still = λ a. cc }
 
 pub legal50 : IsLegal after50
 unfolding utf8_lossy utf8_valid_len is_utf8 chars port_list lib.Utf8.encode
-legal50 = (record { row = record { known = refl; home = refl; unretired = refl; port_closed = λ d. refl; over = inl refl }; turn = refl; still = λ a. cc }, legal49)
+legal50 = (record { row = record { known = refl; unleased = refl; unretired = refl; port_closed = λ d. refl; over = inl refl }; turn = refl; still = λ a. cc }, legal49)
 
 pub legal51 : IsLegal after51
 unfolding utf8_lossy utf8_valid_len is_utf8 chars port_list lib.Utf8.encode
-legal51 = (record { row = record { home = refl; unretired = refl; settled = refl; ready = inl refl; later = lit≤ tt; unpolled = refl }; turn = refl; still = λ a. cc }, legal50)
+legal51 = (record { row = record { unleased = refl; unretired = refl; settled = refl; ready = inl refl; later = lit≤ tt; unpolled = refl }; turn = refl; still = λ a. cc }, legal50)
 
 pub legal52 : IsLegal after52
 unfolding utf8_lossy utf8_valid_len is_utf8 chars port_list lib.Utf8.encode
@@ -238,7 +238,7 @@ legal53 = (record { row = record { out = refl }; turn = refl; still = λ a. cc }
 
 pub legal54 : IsLegal after54
 unfolding utf8_lossy utf8_valid_len is_utf8 chars port_list lib.Utf8.encode
-legal54 = (record { row = record { known = refl; home = refl; unretired = refl; port_closed = λ d. refl; over = inl refl }; turn = refl; still = λ a. cc }, legal53)
+legal54 = (record { row = record { known = refl; unleased = refl; unretired = refl; port_closed = λ d. refl; over = inl refl }; turn = refl; still = λ a. cc }, legal53)
 
 spent : (c : ℕ) → IsLive after54 c → ⊥
 spent zero live = omega arith

@@ -23,7 +23,7 @@ legal1 = (record { row = record { first = refl; zeroth = refl; accepted = json_l
 
 pub legal2 : IsLegal after2
 unfolding utf8_lossy utf8_valid_len is_utf8 chars port_list lib.Utf8.encode object_of number_datum escaped digits
-legal2 = (record { row = record { home = refl; unretired = refl; settled = refl; ready = inl refl; later = lit≤ tt; unpolled = refl }; turn = refl; still = λ a. cc }, legal1)
+legal2 = (record { row = record { unleased = refl; unretired = refl; settled = refl; ready = inl refl; later = lit≤ tt; unpolled = refl }; turn = refl; still = λ a. cc }, legal1)
 
 pub legal3 : IsLegal after3
 unfolding utf8_lossy utf8_valid_len is_utf8 chars port_list lib.Utf8.encode object_of number_datum escaped digits
@@ -38,15 +38,15 @@ legal5 = (record { row = record { out = refl }; turn = refl; still = λ a. cc },
 
 pub legal6 : IsLegal after6
 unfolding utf8_lossy utf8_valid_len is_utf8 chars port_list lib.Utf8.encode object_of number_datum escaped digits
-legal6 = (record { row = record { split = record { home = refl; none_waits = refl; oldest = refl; on_ports = refl; same_event = refl; some = lit< tt; made = refl }; fits = lit≤ tt }; turn = refl; still = λ a. cc }, legal5)
+legal6 = (record { row = record { split = record { unleased = refl; none_waits = refl; oldest = refl; on_ports = refl; same_event = refl; some = lit< tt; made = refl }; fits = lit≤ tt }; turn = refl; still = λ a. cc }, legal5)
 
 pub legal7 : IsLegal after7
 unfolding utf8_lossy utf8_valid_len is_utf8 chars port_list lib.Utf8.encode object_of number_datum escaped digits
-legal7 = (record { row = record { home = refl; oldest = refl; room = refl }; turn = refl; still = λ a. cc }, legal6)
+legal7 = (record { row = record { unleased = refl; oldest = refl; room = refl }; turn = refl; still = λ a. cc }, legal6)
 
 pub legal8 : IsLegal after8
 unfolding utf8_lossy utf8_valid_len is_utf8 chars port_list lib.Utf8.encode object_of number_datum escaped digits
-legal8 = (record { row = record { home = refl; unretired = refl; settled = refl; ready = inl refl; later = lit≤ tt; unpolled = refl }; turn = refl; still = λ a. cc }, legal7)
+legal8 = (record { row = record { unleased = refl; unretired = refl; settled = refl; ready = inl refl; later = lit≤ tt; unpolled = refl }; turn = refl; still = λ a. cc }, legal7)
 
 pub legal9 : IsLegal after9
 unfolding utf8_lossy utf8_valid_len is_utf8 chars port_list lib.Utf8.encode object_of number_datum escaped digits
@@ -54,7 +54,7 @@ legal9 = (record { row = record { out = refl; only_takes = refl; few = lit< tt; 
 
 pub legal10 : IsLegal after10
 unfolding utf8_lossy utf8_valid_len is_utf8 chars port_list lib.Utf8.encode object_of number_datum escaped digits
-legal10 = (record { row = record { sink = refl; out = refl; once = refl; all = refl; batch_closed = refl; waited = lit≤ tt; given = refl; whole = λ e. refl; swallowed = λ e. cc }; turn = refl; still = λ a. cc }, legal9)
+legal10 = (record { row = record { sink = refl; out = refl; once = refl; all = refl; batch_closed = refl; waited = lit≤ tt; given = refl; whole = λ e. refl; blackhole_ok = λ e. cc }; turn = refl; still = λ a. cc }, legal9)
 
 pub legal11 : IsLegal after11
 unfolding utf8_lossy utf8_valid_len is_utf8 chars port_list lib.Utf8.encode object_of number_datum escaped digits
@@ -69,7 +69,7 @@ legal13 = (record { row = record { out = refl }; turn = refl; still = λ a. cc }
 
 pub legal14 : IsLegal after14
 unfolding utf8_lossy utf8_valid_len is_utf8 chars port_list lib.Utf8.encode object_of number_datum escaped digits
-legal14 = (record { row = record { home = refl; unretired = refl; settled = refl; ready = inl refl; later = lit≤ tt; unpolled = refl }; turn = refl; still = λ a. cc }, legal13)
+legal14 = (record { row = record { unleased = refl; unretired = refl; settled = refl; ready = inl refl; later = lit≤ tt; unpolled = refl }; turn = refl; still = λ a. cc }, legal13)
 
 pub legal15 : IsLegal after15
 unfolding utf8_lossy utf8_valid_len is_utf8 chars port_list lib.Utf8.encode object_of number_datum escaped digits
@@ -84,7 +84,7 @@ legal17 = (record { row = record { out = refl }; turn = refl; still = λ a. cc }
 
 pub legal18 : IsLegal after18
 unfolding utf8_lossy utf8_valid_len is_utf8 chars port_list lib.Utf8.encode object_of number_datum escaped digits
-legal18 = (record { row = record { home = refl; unretired = refl; settled = refl; ready = inl refl; later = lit≤ tt; unpolled = refl }; turn = refl; still = λ a. cc }, legal17)
+legal18 = (record { row = record { unleased = refl; unretired = refl; settled = refl; ready = inl refl; later = lit≤ tt; unpolled = refl }; turn = refl; still = λ a. cc }, legal17)
 
 pub legal19 : IsLegal after19
 unfolding utf8_lossy utf8_valid_len is_utf8 chars port_list lib.Utf8.encode object_of number_datum escaped digits
@@ -95,11 +95,11 @@ legal20 = (record { row = record { out = refl }; turn = refl; still = λ a. cc }
 
 pub legal21 : IsLegal after21
 unfolding utf8_lossy utf8_valid_len is_utf8 chars port_list lib.Utf8.encode object_of number_datum escaped digits
-legal21 = (record { row = record { known = refl; home = refl; unretired = refl; port_closed = λ d. refl; over = inl refl }; turn = refl; still = λ a. cc }, legal20)
+legal21 = (record { row = record { known = refl; unleased = refl; unretired = refl; port_closed = λ d. refl; over = inl refl }; turn = refl; still = λ a. cc }, legal20)
 
 pub legal22 : IsLegal after22
 unfolding utf8_lossy utf8_valid_len is_utf8 chars port_list lib.Utf8.encode object_of number_datum escaped digits
-legal22 = (record { row = record { home = refl; unretired = refl; settled = refl; ready = inl refl; later = lit≤ tt; unpolled = refl }; turn = refl; still = λ a. cc }, legal21)
+legal22 = (record { row = record { unleased = refl; unretired = refl; settled = refl; ready = inl refl; later = lit≤ tt; unpolled = refl }; turn = refl; still = λ a. cc }, legal21)
 
 pub legal23 : IsLegal after23
 unfolding utf8_lossy utf8_valid_len is_utf8 chars port_list lib.Utf8.encode object_of number_datum escaped digits
@@ -110,7 +110,7 @@ legal24 = (record { row = record { out = refl }; turn = refl; still = λ a. cc }
 
 pub legal25 : IsLegal run
 unfolding utf8_lossy utf8_valid_len is_utf8 chars port_list lib.Utf8.encode object_of number_datum escaped digits
-legal25 = (record { row = record { known = refl; home = refl; unretired = refl; port_closed = λ d. refl; over = inl refl }; turn = refl; still = λ a. cc }, legal24)
+legal25 = (record { row = record { known = refl; unleased = refl; unretired = refl; port_closed = λ d. refl; over = inl refl }; turn = refl; still = λ a. cc }, legal24)
 
 pub closed25 : IsClosed run
 closed25 = record { spent = spent; noticed = noticed; retired = retired }

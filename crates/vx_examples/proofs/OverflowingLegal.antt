@@ -19,7 +19,7 @@ legal1 = (record { row = record { first = refl; zeroth = refl; accepted = overfl
 
 pub legal2 : IsLegal after2
 unfolding utf8_lossy utf8_valid_len is_utf8 chars port_list lib.Utf8.encode
-legal2 = (record { row = record { home = refl; unretired = refl; settled = refl; ready = inl refl; later = lit≤ tt; unpolled = refl }; turn = refl; still = λ a. cc }, legal1)
+legal2 = (record { row = record { unleased = refl; unretired = refl; settled = refl; ready = inl refl; later = lit≤ tt; unpolled = refl }; turn = refl; still = λ a. cc }, legal1)
 
 pub legal3 : IsLegal after3
 unfolding utf8_lossy utf8_valid_len is_utf8 chars port_list lib.Utf8.encode
@@ -35,23 +35,23 @@ legal5 = (record { row = record { out = refl }; turn = refl; still = λ a. cc },
 
 pub legal6 : IsLegal after6
 unfolding utf8_lossy utf8_valid_len is_utf8 chars port_list lib.Utf8.encode
-legal6 = (record { row = record { split = record { home = refl; none_waits = refl; oldest = refl; on_ports = refl; same_event = refl; some = lit< tt; made = refl }; fits = lit≤ tt }; turn = refl; still = λ a. cc }, legal5)
+legal6 = (record { row = record { split = record { unleased = refl; none_waits = refl; oldest = refl; on_ports = refl; same_event = refl; some = lit< tt; made = refl }; fits = lit≤ tt }; turn = refl; still = λ a. cc }, legal5)
 
 pub legal7 : IsLegal after7
 unfolding utf8_lossy utf8_valid_len is_utf8 chars port_list lib.Utf8.encode
-legal7 = (record { row = record { home = refl; oldest = refl; room = refl }; turn = refl; still = λ a. cc }, legal6)
+legal7 = (record { row = record { unleased = refl; oldest = refl; room = refl }; turn = refl; still = λ a. cc }, legal6)
 
 pub legal8 : IsLegal after8
 unfolding utf8_lossy utf8_valid_len is_utf8 chars port_list lib.Utf8.encode
-legal8 = (record { row = record { split = record { home = refl; none_waits = refl; oldest = refl; on_ports = refl; same_event = refl; some = lit< tt; made = refl }; fits = lit≤ tt }; turn = refl; still = λ a. cc }, legal7)
+legal8 = (record { row = record { split = record { unleased = refl; none_waits = refl; oldest = refl; on_ports = refl; same_event = refl; some = lit< tt; made = refl }; fits = lit≤ tt }; turn = refl; still = λ a. cc }, legal7)
 
 pub legal9 : IsLegal after9
 unfolding utf8_lossy utf8_valid_len is_utf8 chars port_list lib.Utf8.encode
-legal9 = (record { row = record { home = refl; oldest = refl; room = refl }; turn = refl; still = λ a. cc }, legal8)
+legal9 = (record { row = record { unleased = refl; oldest = refl; room = refl }; turn = refl; still = λ a. cc }, legal8)
 
 pub legal10 : IsLegal after10
 unfolding utf8_lossy utf8_valid_len is_utf8 chars port_list lib.Utf8.encode
-legal10 = (record { row = record { split = record { home = refl; none_waits = refl; oldest = refl; on_ports = refl; same_event = refl; some = lit< tt; made = refl }; fits = lit≤ tt }; turn = refl; still = λ a. cc }, legal9)
+legal10 = (record { row = record { split = record { unleased = refl; none_waits = refl; oldest = refl; on_ports = refl; same_event = refl; some = lit< tt; made = refl }; fits = lit≤ tt }; turn = refl; still = λ a. cc }, legal9)
 
 pub legal11 : IsLegal after11
 unfolding utf8_lossy utf8_valid_len is_utf8 chars port_list lib.Utf8.encode
@@ -59,7 +59,7 @@ legal11 = (record { row = record { live = (lit< tt, refl, refl); here = lit< tt;
 
 pub legal12 : IsLegal after12
 unfolding utf8_lossy utf8_valid_len is_utf8 chars port_list lib.Utf8.encode
-legal12 = (record { row = record { home = refl; unretired = refl; settled = refl; ready = inl refl; later = lit≤ tt; unpolled = refl }; turn = refl; still = λ a. cc }, legal11)
+legal12 = (record { row = record { unleased = refl; unretired = refl; settled = refl; ready = inl refl; later = lit≤ tt; unpolled = refl }; turn = refl; still = λ a. cc }, legal11)
 
 pub legal13 : IsLegal after13
 unfolding utf8_lossy utf8_valid_len is_utf8 chars port_list lib.Utf8.encode
@@ -67,7 +67,7 @@ legal13 = (record { row = record { out = refl; only_takes = refl; few = lit< tt;
 
 pub legal14 : IsLegal after14
 unfolding utf8_lossy utf8_valid_len is_utf8 chars port_list lib.Utf8.encode
-legal14 = (record { row = record { sink = refl; out = refl; once = refl; all = refl; batch_closed = refl; waited = lit≤ tt; given = refl; whole = λ e. refl; swallowed = λ e. cc }; turn = refl; still = λ a. cc }, legal13)
+legal14 = (record { row = record { sink = refl; out = refl; once = refl; all = refl; batch_closed = refl; waited = lit≤ tt; given = refl; whole = λ e. refl; blackhole_ok = λ e. cc }; turn = refl; still = λ a. cc }, legal13)
 
 pub legal15 : IsLegal after15
 unfolding utf8_lossy utf8_valid_len is_utf8 chars port_list lib.Utf8.encode
@@ -79,7 +79,7 @@ legal16 = (record { row = record { out = refl }; turn = refl; still = λ a. cc }
 
 pub legal17 : IsLegal after17
 unfolding utf8_lossy utf8_valid_len is_utf8 chars port_list lib.Utf8.encode
-legal17 = (record { row = record { home = refl; unretired = refl; settled = refl; ready = inl refl; later = lit≤ tt; unpolled = refl }; turn = refl; still = λ a. cc }, legal16)
+legal17 = (record { row = record { unleased = refl; unretired = refl; settled = refl; ready = inl refl; later = lit≤ tt; unpolled = refl }; turn = refl; still = λ a. cc }, legal16)
 
 pub legal18 : IsLegal after18
 unfolding utf8_lossy utf8_valid_len is_utf8 chars port_list lib.Utf8.encode
@@ -87,7 +87,7 @@ legal18 = (record { row = record { out = refl; only_takes = refl; few = lit< tt;
 
 pub legal19 : IsLegal after19
 unfolding utf8_lossy utf8_valid_len is_utf8 chars port_list lib.Utf8.encode
-legal19 = (record { row = record { sink = refl; out = refl; once = refl; all = refl; batch_closed = refl; waited = lit≤ tt; given = refl; whole = λ e. refl; swallowed = λ e. cc }; turn = refl; still = λ a. cc }, legal18)
+legal19 = (record { row = record { sink = refl; out = refl; once = refl; all = refl; batch_closed = refl; waited = lit≤ tt; given = refl; whole = λ e. refl; blackhole_ok = λ e. cc }; turn = refl; still = λ a. cc }, legal18)
 
 pub legal20 : IsLegal after20
 unfolding utf8_lossy utf8_valid_len is_utf8 chars port_list lib.Utf8.encode
@@ -103,7 +103,7 @@ legal22 = (record { row = record { out = refl }; turn = refl; still = λ a. cc }
 
 pub legal23 : IsLegal after23
 unfolding utf8_lossy utf8_valid_len is_utf8 chars port_list lib.Utf8.encode
-legal23 = (record { row = record { home = refl; unretired = refl; settled = refl; ready = inl refl; later = lit≤ tt; unpolled = refl }; turn = refl; still = λ a. cc }, legal22)
+legal23 = (record { row = record { unleased = refl; unretired = refl; settled = refl; ready = inl refl; later = lit≤ tt; unpolled = refl }; turn = refl; still = λ a. cc }, legal22)
 
 pub legal24 : IsLegal after24
 unfolding utf8_lossy utf8_valid_len is_utf8 chars port_list lib.Utf8.encode
@@ -119,7 +119,7 @@ legal26 = (record { row = record { out = refl }; turn = refl; still = λ a. cc }
 
 pub legal27 : IsLegal after27
 unfolding utf8_lossy utf8_valid_len is_utf8 chars port_list lib.Utf8.encode
-legal27 = (record { row = record { home = refl; unretired = refl; settled = refl; ready = inl refl; later = lit≤ tt; unpolled = refl }; turn = refl; still = λ a. cc }, legal26)
+legal27 = (record { row = record { unleased = refl; unretired = refl; settled = refl; ready = inl refl; later = lit≤ tt; unpolled = refl }; turn = refl; still = λ a. cc }, legal26)
 
 pub legal28 : IsLegal after28
 unfolding utf8_lossy utf8_valid_len is_utf8 chars port_list lib.Utf8.encode
@@ -131,11 +131,11 @@ legal29 = (record { row = record { out = refl }; turn = refl; still = λ a. cc }
 
 pub legal30 : IsLegal after30
 unfolding utf8_lossy utf8_valid_len is_utf8 chars port_list lib.Utf8.encode
-legal30 = (record { row = record { known = refl; home = refl; unretired = refl; port_closed = λ d. refl; over = inl refl }; turn = refl; still = λ a. cc }, legal29)
+legal30 = (record { row = record { known = refl; unleased = refl; unretired = refl; port_closed = λ d. refl; over = inl refl }; turn = refl; still = λ a. cc }, legal29)
 
 pub legal31 : IsLegal after31
 unfolding utf8_lossy utf8_valid_len is_utf8 chars port_list lib.Utf8.encode
-legal31 = (record { row = record { home = refl; unretired = refl; settled = refl; ready = inl refl; later = lit≤ tt; unpolled = refl }; turn = refl; still = λ a. cc }, legal30)
+legal31 = (record { row = record { unleased = refl; unretired = refl; settled = refl; ready = inl refl; later = lit≤ tt; unpolled = refl }; turn = refl; still = λ a. cc }, legal30)
 
 pub legal32 : IsLegal after32
 unfolding utf8_lossy utf8_valid_len is_utf8 chars port_list lib.Utf8.encode
@@ -147,7 +147,7 @@ legal33 = (record { row = record { out = refl }; turn = refl; still = λ a. cc }
 
 pub legal34 : IsLegal after34
 unfolding utf8_lossy utf8_valid_len is_utf8 chars port_list lib.Utf8.encode
-legal34 = (record { row = record { known = refl; home = refl; unretired = refl; port_closed = λ d. refl; over = inl refl }; turn = refl; still = λ a. cc }, legal33)
+legal34 = (record { row = record { known = refl; unleased = refl; unretired = refl; port_closed = λ d. refl; over = inl refl }; turn = refl; still = λ a. cc }, legal33)
 
 spent : (c : ℕ) → IsLive after34 c → ⊥
 spent zero live = omega arith

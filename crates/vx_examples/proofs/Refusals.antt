@@ -49,7 +49,7 @@ never_lease_without_work = never lease_without_work lease_without_work_is_refuse
 
 lease_of_one_out_is_refused : IsLegal lease_of_one_out → ⊥
 unfolding utf8_lossy utf8_valid_len is_utf8 chars port_list lib.Utf8.encode
-lease_of_one_out_is_refused l = let e = l.0.row.home in cc
+lease_of_one_out_is_refused l = let e = l.0.row.unleased in cc
 
 pub never_lease_of_one_out : NeverLegal lease_of_one_out
 never_lease_of_one_out = never lease_of_one_out lease_of_one_out_is_refused
@@ -98,7 +98,7 @@ never_split_of_the_younger = never split_of_the_younger split_of_the_younger_is_
 
 split_while_out_is_refused : IsLegal split_while_out → ⊥
 unfolding utf8_lossy utf8_valid_len is_utf8 chars port_list lib.Utf8.encode
-split_while_out_is_refused l = let e = l.0.row.split.home in cc
+split_while_out_is_refused l = let e = l.0.row.split.unleased in cc
 
 pub never_split_while_out : NeverLegal split_while_out
 never_split_while_out = never split_while_out split_while_out_is_refused

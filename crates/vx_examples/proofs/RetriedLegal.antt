@@ -15,7 +15,7 @@ use Rattle.vx_examples.proofs.JoinedLegal.{legal36}
 
 pub legal37 : IsLegal after37
 unfolding utf8_lossy utf8_valid_len is_utf8 chars port_list lib.Utf8.encode
-legal37 = (record { row = record { sink = refl; out = refl; once = refl; all = refl; batch_closed = refl; waited = lit≤ tt; given = refl; whole = λ e. cc; swallowed = λ e. cc }; turn = refl; still = λ a. cc }, legal36)
+legal37 = (record { row = record { sink = refl; out = refl; once = refl; all = refl; batch_closed = refl; waited = lit≤ tt; given = refl; whole = λ e. cc; blackhole_ok = λ e. cc }; turn = refl; still = λ a. cc }, legal36)
 
 pub legal38 : IsLegal after38
 unfolding utf8_lossy utf8_valid_len is_utf8 chars port_list lib.Utf8.encode
@@ -23,11 +23,11 @@ legal38 = (record { row = record { out = refl }; turn = refl; still = λ a. cc }
 
 pub legal39 : IsLegal after39
 unfolding utf8_lossy utf8_valid_len is_utf8 chars port_list lib.Utf8.encode
-legal39 = (record { row = record { home = refl; unretired = refl; settled = refl; ready = inl refl; later = lit≤ tt; unpolled = refl }; turn = refl; still = λ a. cc }, legal38)
+legal39 = (record { row = record { unleased = refl; unretired = refl; settled = refl; ready = inl refl; later = lit≤ tt; unpolled = refl }; turn = refl; still = λ a. cc }, legal38)
 
 pub legal40 : IsLegal after40
 unfolding utf8_lossy utf8_valid_len is_utf8 chars port_list lib.Utf8.encode
-legal40 = (record { row = record { sink = refl; out = refl; once = refl; all = refl; batch_closed = refl; waited = lit≤ tt; given = refl; whole = λ e. refl; swallowed = λ e. cc }; turn = refl; still = λ a. cc }, legal39)
+legal40 = (record { row = record { sink = refl; out = refl; once = refl; all = refl; batch_closed = refl; waited = lit≤ tt; given = refl; whole = λ e. refl; blackhole_ok = λ e. cc }; turn = refl; still = λ a. cc }, legal39)
 
 pub legal41 : IsLegal after41
 unfolding utf8_lossy utf8_valid_len is_utf8 chars port_list lib.Utf8.encode
@@ -55,11 +55,11 @@ legal46 = (record { row = record { out = refl }; turn = refl; still = λ a. cc }
 
 pub legal47 : IsLegal after47
 unfolding utf8_lossy utf8_valid_len is_utf8 chars port_list lib.Utf8.encode
-legal47 = (record { row = record { known = refl; home = refl; unretired = refl; port_closed = λ d. cc; over = inl refl }; turn = refl; still = λ a. cc }, legal46)
+legal47 = (record { row = record { known = refl; unleased = refl; unretired = refl; port_closed = λ d. cc; over = inl refl }; turn = refl; still = λ a. cc }, legal46)
 
 pub legal48 : IsLegal after48
 unfolding utf8_lossy utf8_valid_len is_utf8 chars port_list lib.Utf8.encode
-legal48 = (record { row = record { home = refl; unretired = refl; settled = refl; ready = inl refl; later = lit≤ tt; unpolled = refl }; turn = refl; still = λ a. cc }, legal47)
+legal48 = (record { row = record { unleased = refl; unretired = refl; settled = refl; ready = inl refl; later = lit≤ tt; unpolled = refl }; turn = refl; still = λ a. cc }, legal47)
 
 pub legal49 : IsLegal after49
 unfolding utf8_lossy utf8_valid_len is_utf8 chars port_list lib.Utf8.encode
@@ -71,11 +71,11 @@ legal50 = (record { row = record { out = refl }; turn = refl; still = λ a. cc }
 
 pub legal51 : IsLegal after51
 unfolding utf8_lossy utf8_valid_len is_utf8 chars port_list lib.Utf8.encode
-legal51 = (record { row = record { known = refl; home = refl; unretired = refl; port_closed = λ d. refl; over = inl refl }; turn = refl; still = λ a. cc }, legal50)
+legal51 = (record { row = record { known = refl; unleased = refl; unretired = refl; port_closed = λ d. refl; over = inl refl }; turn = refl; still = λ a. cc }, legal50)
 
 pub legal52 : IsLegal after52
 unfolding utf8_lossy utf8_valid_len is_utf8 chars port_list lib.Utf8.encode
-legal52 = (record { row = record { home = refl; unretired = refl; settled = refl; ready = inl refl; later = lit≤ tt; unpolled = refl }; turn = refl; still = λ a. cc }, legal51)
+legal52 = (record { row = record { unleased = refl; unretired = refl; settled = refl; ready = inl refl; later = lit≤ tt; unpolled = refl }; turn = refl; still = λ a. cc }, legal51)
 
 pub legal53 : IsLegal after53
 unfolding utf8_lossy utf8_valid_len is_utf8 chars port_list lib.Utf8.encode
@@ -87,7 +87,7 @@ legal54 = (record { row = record { out = refl }; turn = refl; still = λ a. cc }
 
 pub legal55 : IsLegal after55
 unfolding utf8_lossy utf8_valid_len is_utf8 chars port_list lib.Utf8.encode
-legal55 = (record { row = record { known = refl; home = refl; unretired = refl; port_closed = λ d. refl; over = inl refl }; turn = refl; still = λ a. cc }, legal54)
+legal55 = (record { row = record { known = refl; unleased = refl; unretired = refl; port_closed = λ d. refl; over = inl refl }; turn = refl; still = λ a. cc }, legal54)
 
 spent : (c : ℕ) → IsLive after55 c → ⊥
 spent zero live = omega arith

@@ -19,7 +19,7 @@ legal1 = (record { row = record { first = refl; zeroth = refl; accepted = three_
 
 pub legal2 : IsLegal after2
 unfolding utf8_lossy utf8_valid_len is_utf8 chars port_list lib.Utf8.encode
-legal2 = (record { row = record { home = refl; unretired = refl; settled = refl; ready = inl refl; later = lit≤ tt; unpolled = refl }; turn = refl; still = λ a. cc }, legal1)
+legal2 = (record { row = record { unleased = refl; unretired = refl; settled = refl; ready = inl refl; later = lit≤ tt; unpolled = refl }; turn = refl; still = λ a. cc }, legal1)
 
 pub legal3 : IsLegal after3
 unfolding utf8_lossy utf8_valid_len is_utf8 chars port_list lib.Utf8.encode
@@ -35,23 +35,23 @@ legal5 = (record { row = record { out = refl }; turn = refl; still = λ a. cc },
 
 pub legal6 : IsLegal after6
 unfolding utf8_lossy utf8_valid_len is_utf8 chars port_list lib.Utf8.encode
-legal6 = (record { row = record { split = record { home = refl; none_waits = refl; oldest = refl; on_ports = refl; same_event = refl; some = lit< tt; made = refl }; fits = lit≤ tt }; turn = refl; still = λ a. cc }, legal5)
+legal6 = (record { row = record { split = record { unleased = refl; none_waits = refl; oldest = refl; on_ports = refl; same_event = refl; some = lit< tt; made = refl }; fits = lit≤ tt }; turn = refl; still = λ a. cc }, legal5)
 
 pub legal7 : IsLegal after7
 unfolding utf8_lossy utf8_valid_len is_utf8 chars port_list lib.Utf8.encode
-legal7 = (record { row = record { home = refl; oldest = refl; room = refl }; turn = refl; still = λ a. cc }, legal6)
+legal7 = (record { row = record { unleased = refl; oldest = refl; room = refl }; turn = refl; still = λ a. cc }, legal6)
 
 pub legal8 : IsLegal after8
 unfolding utf8_lossy utf8_valid_len is_utf8 chars port_list lib.Utf8.encode
-legal8 = (record { row = record { home = refl; oldest = refl; room = refl }; turn = refl; still = λ a. cc }, legal7)
+legal8 = (record { row = record { unleased = refl; oldest = refl; room = refl }; turn = refl; still = λ a. cc }, legal7)
 
 pub legal9 : IsLegal after9
 unfolding utf8_lossy utf8_valid_len is_utf8 chars port_list lib.Utf8.encode
-legal9 = (record { row = record { home = refl; oldest = refl; room = refl }; turn = refl; still = λ a. cc }, legal8)
+legal9 = (record { row = record { unleased = refl; oldest = refl; room = refl }; turn = refl; still = λ a. cc }, legal8)
 
 pub legal10 : IsLegal after10
 unfolding utf8_lossy utf8_valid_len is_utf8 chars port_list lib.Utf8.encode
-legal10 = (record { row = record { home = refl; unretired = refl; settled = refl; ready = inl refl; later = lit≤ tt; unpolled = refl }; turn = refl; still = λ a. cc }, legal9)
+legal10 = (record { row = record { unleased = refl; unretired = refl; settled = refl; ready = inl refl; later = lit≤ tt; unpolled = refl }; turn = refl; still = λ a. cc }, legal9)
 
 pub legal11 : IsLegal after11
 unfolding utf8_lossy utf8_valid_len is_utf8 chars port_list lib.Utf8.encode
@@ -59,7 +59,7 @@ legal11 = (record { row = record { out = refl; only_takes = refl; few = lit< tt;
 
 pub legal12 : IsLegal after12
 unfolding utf8_lossy utf8_valid_len is_utf8 chars port_list lib.Utf8.encode
-legal12 = (record { row = record { sink = refl; out = refl; once = refl; all = refl; batch_closed = refl; waited = lit≤ tt; given = refl; whole = λ e. refl; swallowed = λ e. cc }; turn = refl; still = λ a. cc }, legal11)
+legal12 = (record { row = record { sink = refl; out = refl; once = refl; all = refl; batch_closed = refl; waited = lit≤ tt; given = refl; whole = λ e. refl; blackhole_ok = λ e. cc }; turn = refl; still = λ a. cc }, legal11)
 
 pub legal13 : IsLegal after13
 unfolding utf8_lossy utf8_valid_len is_utf8 chars port_list lib.Utf8.encode
@@ -71,7 +71,7 @@ legal14 = (record { row = record { out = refl }; turn = refl; still = λ a. cc }
 
 pub legal15 : IsLegal after15
 unfolding utf8_lossy utf8_valid_len is_utf8 chars port_list lib.Utf8.encode
-legal15 = (record { row = record { home = refl; unretired = refl; settled = refl; ready = inl refl; later = lit≤ tt; unpolled = refl }; turn = refl; still = λ a. cc }, legal14)
+legal15 = (record { row = record { unleased = refl; unretired = refl; settled = refl; ready = inl refl; later = lit≤ tt; unpolled = refl }; turn = refl; still = λ a. cc }, legal14)
 
 pub legal16 : IsLegal after16
 unfolding utf8_lossy utf8_valid_len is_utf8 chars port_list lib.Utf8.encode
@@ -79,7 +79,7 @@ legal16 = (record { row = record { out = refl; only_takes = refl; few = lit< tt;
 
 pub legal17 : IsLegal after17
 unfolding utf8_lossy utf8_valid_len is_utf8 chars port_list lib.Utf8.encode
-legal17 = (record { row = record { sink = refl; out = refl; once = refl; all = refl; batch_closed = refl; waited = lit≤ tt; given = refl; whole = λ e. cc; swallowed = λ e. cc }; turn = refl; still = λ a. cc }, legal16)
+legal17 = (record { row = record { sink = refl; out = refl; once = refl; all = refl; batch_closed = refl; waited = lit≤ tt; given = refl; whole = λ e. cc; blackhole_ok = λ e. cc }; turn = refl; still = λ a. cc }, legal16)
 
 pub legal18 : IsLegal after18
 unfolding utf8_lossy utf8_valid_len is_utf8 chars port_list lib.Utf8.encode
@@ -91,7 +91,7 @@ legal19 = (record { row = record { out = refl }; turn = refl; still = λ a. cc }
 
 pub legal20 : IsLegal after20
 unfolding utf8_lossy utf8_valid_len is_utf8 chars port_list lib.Utf8.encode
-legal20 = (record { row = record { home = refl; unretired = refl; settled = refl; ready = inl refl; later = lit≤ tt; unpolled = refl }; turn = refl; still = λ a. cc }, legal19)
+legal20 = (record { row = record { unleased = refl; unretired = refl; settled = refl; ready = inl refl; later = lit≤ tt; unpolled = refl }; turn = refl; still = λ a. cc }, legal19)
 
 pub legal21 : IsLegal after21
 unfolding utf8_lossy utf8_valid_len is_utf8 chars port_list lib.Utf8.encode
@@ -99,7 +99,7 @@ legal21 = (record { row = record { out = refl; only_takes = refl; few = lit< tt;
 
 pub legal22 : IsLegal after22
 unfolding utf8_lossy utf8_valid_len is_utf8 chars port_list lib.Utf8.encode
-legal22 = (record { row = record { sink = refl; out = refl; once = refl; all = refl; batch_closed = refl; waited = lit≤ tt; given = refl; whole = λ e. refl; swallowed = λ e. cc }; turn = refl; still = λ a. cc }, legal21)
+legal22 = (record { row = record { sink = refl; out = refl; once = refl; all = refl; batch_closed = refl; waited = lit≤ tt; given = refl; whole = λ e. refl; blackhole_ok = λ e. cc }; turn = refl; still = λ a. cc }, legal21)
 
 pub legal23 : IsLegal after23
 unfolding utf8_lossy utf8_valid_len is_utf8 chars port_list lib.Utf8.encode
@@ -115,7 +115,7 @@ legal25 = (record { row = record { out = refl }; turn = refl; still = λ a. cc }
 
 pub legal26 : IsLegal after26
 unfolding utf8_lossy utf8_valid_len is_utf8 chars port_list lib.Utf8.encode
-legal26 = (record { row = record { home = refl; unretired = refl; settled = refl; ready = inl refl; later = lit≤ tt; unpolled = refl }; turn = refl; still = λ a. cc }, legal25)
+legal26 = (record { row = record { unleased = refl; unretired = refl; settled = refl; ready = inl refl; later = lit≤ tt; unpolled = refl }; turn = refl; still = λ a. cc }, legal25)
 
 pub legal27 : IsLegal after27
 unfolding utf8_lossy utf8_valid_len is_utf8 chars port_list lib.Utf8.encode
@@ -131,7 +131,7 @@ legal29 = (record { row = record { out = refl }; turn = refl; still = λ a. cc }
 
 pub legal30 : IsLegal after30
 unfolding utf8_lossy utf8_valid_len is_utf8 chars port_list lib.Utf8.encode
-legal30 = (record { row = record { home = refl; unretired = refl; settled = refl; ready = inl refl; later = lit≤ tt; unpolled = refl }; turn = refl; still = λ a. cc }, legal29)
+legal30 = (record { row = record { unleased = refl; unretired = refl; settled = refl; ready = inl refl; later = lit≤ tt; unpolled = refl }; turn = refl; still = λ a. cc }, legal29)
 
 pub legal31 : IsLegal after31
 unfolding utf8_lossy utf8_valid_len is_utf8 chars port_list lib.Utf8.encode
@@ -143,11 +143,11 @@ legal32 = (record { row = record { out = refl }; turn = refl; still = λ a. cc }
 
 pub legal33 : IsLegal after33
 unfolding utf8_lossy utf8_valid_len is_utf8 chars port_list lib.Utf8.encode
-legal33 = (record { row = record { known = refl; home = refl; unretired = refl; port_closed = λ d. refl; over = inl refl }; turn = refl; still = λ a. cc }, legal32)
+legal33 = (record { row = record { known = refl; unleased = refl; unretired = refl; port_closed = λ d. refl; over = inl refl }; turn = refl; still = λ a. cc }, legal32)
 
 pub legal34 : IsLegal after34
 unfolding utf8_lossy utf8_valid_len is_utf8 chars port_list lib.Utf8.encode
-legal34 = (record { row = record { home = refl; unretired = refl; settled = refl; ready = inl refl; later = lit≤ tt; unpolled = refl }; turn = refl; still = λ a. cc }, legal33)
+legal34 = (record { row = record { unleased = refl; unretired = refl; settled = refl; ready = inl refl; later = lit≤ tt; unpolled = refl }; turn = refl; still = λ a. cc }, legal33)
 
 pub legal35 : IsLegal after35
 unfolding utf8_lossy utf8_valid_len is_utf8 chars port_list lib.Utf8.encode
@@ -159,11 +159,11 @@ legal36 = (record { row = record { out = refl }; turn = refl; still = λ a. cc }
 
 pub legal37 : IsLegal after37
 unfolding utf8_lossy utf8_valid_len is_utf8 chars port_list lib.Utf8.encode
-legal37 = (record { row = record { known = refl; home = refl; unretired = refl; port_closed = λ d. refl; over = inl refl }; turn = refl; still = λ a. cc }, legal36)
+legal37 = (record { row = record { known = refl; unleased = refl; unretired = refl; port_closed = λ d. refl; over = inl refl }; turn = refl; still = λ a. cc }, legal36)
 
 pub legal38 : IsLegal after38
 unfolding utf8_lossy utf8_valid_len is_utf8 chars port_list lib.Utf8.encode
-legal38 = (record { row = record { home = refl; unretired = refl; settled = refl; ready = inl refl; later = lit≤ tt; unpolled = refl }; turn = refl; still = λ a. cc }, legal37)
+legal38 = (record { row = record { unleased = refl; unretired = refl; settled = refl; ready = inl refl; later = lit≤ tt; unpolled = refl }; turn = refl; still = λ a. cc }, legal37)
 
 pub legal39 : IsLegal after39
 unfolding utf8_lossy utf8_valid_len is_utf8 chars port_list lib.Utf8.encode
@@ -175,11 +175,11 @@ legal40 = (record { row = record { out = refl }; turn = refl; still = λ a. cc }
 
 pub legal41 : IsLegal after41
 unfolding utf8_lossy utf8_valid_len is_utf8 chars port_list lib.Utf8.encode
-legal41 = (record { row = record { known = refl; home = refl; unretired = refl; port_closed = λ d. refl; over = inl refl }; turn = refl; still = λ a. cc }, legal40)
+legal41 = (record { row = record { known = refl; unleased = refl; unretired = refl; port_closed = λ d. refl; over = inl refl }; turn = refl; still = λ a. cc }, legal40)
 
 pub legal42 : IsLegal after42
 unfolding utf8_lossy utf8_valid_len is_utf8 chars port_list lib.Utf8.encode
-legal42 = (record { row = record { home = refl; unretired = refl; settled = refl; ready = inl refl; later = lit≤ tt; unpolled = refl }; turn = refl; still = λ a. cc }, legal41)
+legal42 = (record { row = record { unleased = refl; unretired = refl; settled = refl; ready = inl refl; later = lit≤ tt; unpolled = refl }; turn = refl; still = λ a. cc }, legal41)
 
 pub legal43 : IsLegal after43
 unfolding utf8_lossy utf8_valid_len is_utf8 chars port_list lib.Utf8.encode
@@ -191,7 +191,7 @@ legal44 = (record { row = record { out = refl }; turn = refl; still = λ a. cc }
 
 pub legal45 : IsLegal after45
 unfolding utf8_lossy utf8_valid_len is_utf8 chars port_list lib.Utf8.encode
-legal45 = (record { row = record { known = refl; home = refl; unretired = refl; port_closed = λ d. refl; over = inl refl }; turn = refl; still = λ a. cc }, legal44)
+legal45 = (record { row = record { known = refl; unleased = refl; unretired = refl; port_closed = λ d. refl; over = inl refl }; turn = refl; still = λ a. cc }, legal44)
 
 spent : (c : ℕ) → IsLive after45 c → ⊥
 spent zero live = omega arith

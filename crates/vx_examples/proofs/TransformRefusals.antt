@@ -5,7 +5,7 @@ use Rattle.std.proofs.lemmas.Bool.Decides.{nat_tests}
 use Rattle.std.specs.List.{list_any, list_all}
 use Rattle.std.specs.Str.{chars, is_utf8}
 use Rattle.std.specs.Str.Lossy.{utf8_lossy, utf8_valid_len}
-use Rattle.vx_value.specs.Texts.{Word, same_text}
+use Rattle.vx_value.specs.Texts.{ByteString, same_text}
 use Rattle.vx_value.specs.declared.event.Event.{Event}
 use Rattle.vx_json.specs.declared.codec.Codec.TheVariants as codec
 use Rattle.vx_condition.specs.Steps.{Test}
@@ -37,7 +37,7 @@ use Rattle.vx_examples.proofs.ChainedLegal.{second_rule, repeats_rule}
 use Rattle.vx_examples.proofs.JoinedLegal.{rule as reduce_rule}
 use Rattle.vx_examples.proofs.GeneratedLegal.{q_lines, one_next}
 use Rattle.vx_examples.proofs.Refusals.{never, different}
-use Rattle.vx_examples.specs.RefusedTransforms.{answer_at_home, answer_of_a_sink, answer_that_loses, answer_that_doubles, answer_of_another_copy, answer_in_another_order, filter_that_keeps, lease_owing_an_answer, lease_owing_a_discard, second_answer, filtered_though_passed, take_behind_an_answer, split_of_another_port, split_of_another_event, tick_of_a_filter, lease_of_an_idle_transform, retired_with_a_kept_parcel, unread_though_a_way_is_read, split_of_an_unread_port, no_such_port, lease_before_the_tick, tick_at_another_moment, second_tick, flush_too_soon, joined_in_another_order, joined_with_another_event, young_group_put_out, split_of_a_part, notice_of_another_batch, other_lines, lines_past_the_count, refused_by_a_hole, push_past_the_first_stage, dropped_with_room_behind, take_past_the_first_stage, answer_after_an_abandon, tick_after_an_abandon, tick_at_home, flush_with_contents, ended_with_lines_left, lines_of_another_stream, bytes_into_a_hole, host_that_loses, repeat_put_out, second_put_out, host_without_a_copy, host_on_no_port, host_past_the_last_port, two_ticks, take_behind_a_tick, flush_that_keeps, ended_on_another_stream, hasty_retry, restless_lease}
+use Rattle.vx_examples.specs.RefusedTransforms.{answer_unleased, answer_of_a_sink, answer_that_loses, answer_that_doubles, answer_of_another_copy, answer_in_another_order, filter_that_keeps, lease_owing_an_answer, lease_owing_a_discard, second_answer, filtered_though_passed, take_behind_an_answer, split_of_another_port, split_of_another_event, tick_of_a_filter, lease_of_an_idle_transform, retired_with_a_kept_parcel, unread_though_a_way_is_read, split_of_an_unread_port, no_such_port, lease_before_the_tick, tick_at_another_moment, second_tick, flush_too_soon, joined_in_another_order, joined_with_another_event, young_group_put_out, split_of_a_part, notice_of_another_batch, other_lines, lines_past_the_count, refused_by_a_blackhole, push_past_the_first_stage, dropped_with_room_behind, take_past_the_first_stage, answer_after_an_abandon, tick_after_an_abandon, tick_unleased, flush_with_contents, ended_with_lines_left, lines_of_another_stream, bytes_into_a_blackhole, host_that_loses, repeat_put_out, second_put_out, host_without_a_copy, host_on_no_port, host_past_the_last_port, two_ticks, take_behind_a_tick, flush_that_keeps, ended_on_another_stream, hasty_retry, restless_lease}
 
 -- a filter has no tick
 filter_never_due : (h : Record) (now : ℕ) → component_of h 1 ≡ Some filtered.filter_k → IsTickDue h 1 now → ⊥
@@ -149,12 +149,12 @@ has_room zero w = let e = w.next in omega arith
 has_room (suc zero) w = let e = w.full in cc
 has_room (suc (suc t)) w = let e = w.next in grind (arith, nat_tests)
 
-answer_at_home_is_refused : IsLegal answer_at_home → ⊥
+answer_unleased_is_refused : IsLegal answer_unleased → ⊥
 unfolding utf8_lossy utf8_valid_len is_utf8 chars port_list lib.Utf8.encode
-answer_at_home_is_refused l = let e = l.0.row.out in cc
+answer_unleased_is_refused l = let e = l.0.row.out in cc
 
-pub never_answer_at_home : NeverLegal answer_at_home
-never_answer_at_home = never answer_at_home answer_at_home_is_refused
+pub never_answer_unleased : NeverLegal answer_unleased
+never_answer_unleased = never answer_unleased answer_unleased_is_refused
 
 answer_of_a_sink_is_refused : IsLegal answer_of_a_sink → ⊥
 unfolding utf8_lossy utf8_valid_len is_utf8 chars port_list lib.Utf8.encode
@@ -354,7 +354,7 @@ never_notice_of_another_batch = never notice_of_another_batch notice_of_another_
 
 other_lines_is_refused : IsLegal other_lines → ⊥
 unfolding utf8_lossy utf8_valid_len is_utf8 chars port_list lib.Utf8.encode
-other_lines_is_refused l = different (λ (w : Word). slice_index_or w 0 0 == 114) refl refl ((l.0.row.generated q_lines refl).lines ∙ one_next 0)
+other_lines_is_refused l = different (λ (w : ByteString). slice_index_or w 0 0 == 114) refl refl ((l.0.row.generated q_lines refl).lines ∙ one_next 0)
 
 pub never_other_lines : NeverLegal other_lines
 never_other_lines = never other_lines other_lines_is_refused
@@ -366,12 +366,12 @@ lines_past_the_count_is_refused l = let e = (l.0.row.generated q_lines refl).som
 pub never_lines_past_the_count : NeverLegal lines_past_the_count
 never_lines_past_the_count = never lines_past_the_count lines_past_the_count_is_refused
 
-refused_by_a_hole_is_refused : IsLegal refused_by_a_hole → ⊥
+refused_by_a_blackhole_is_refused : IsLegal refused_by_a_blackhole → ⊥
 unfolding utf8_lossy utf8_valid_len is_utf8 chars port_list lib.Utf8.encode
-refused_by_a_hole_is_refused l = let e = l.0.row.swallowed refl in cc
+refused_by_a_blackhole_is_refused l = let e = l.0.row.blackhole_ok refl in cc
 
-pub never_refused_by_a_hole : NeverLegal refused_by_a_hole
-never_refused_by_a_hole = never refused_by_a_hole refused_by_a_hole_is_refused
+pub never_refused_by_a_blackhole : NeverLegal refused_by_a_blackhole
+never_refused_by_a_blackhole = never refused_by_a_blackhole refused_by_a_blackhole_is_refused
 
 push_past_the_first_stage_is_refused : IsLegal push_past_the_first_stage → ⊥
 unfolding utf8_lossy utf8_valid_len is_utf8 chars port_list lib.Utf8.encode
@@ -408,12 +408,12 @@ tick_after_an_abandon_is_refused l = let e = l.0.still refl in cc
 pub never_tick_after_an_abandon : NeverLegal tick_after_an_abandon
 never_tick_after_an_abandon = never tick_after_an_abandon tick_after_an_abandon_is_refused
 
-tick_at_home_is_refused : IsLegal tick_at_home → ⊥
+tick_unleased_is_refused : IsLegal tick_unleased → ⊥
 unfolding utf8_lossy utf8_valid_len is_utf8 chars port_list lib.Utf8.encode
-tick_at_home_is_refused l = let e = l.0.row.out in cc
+tick_unleased_is_refused l = let e = l.0.row.out in cc
 
-pub never_tick_at_home : NeverLegal tick_at_home
-never_tick_at_home = never tick_at_home tick_at_home_is_refused
+pub never_tick_unleased : NeverLegal tick_unleased
+never_tick_unleased = never tick_unleased tick_unleased_is_refused
 
 flush_with_contents_is_refused : IsLegal flush_with_contents → ⊥
 unfolding utf8_lossy utf8_valid_len is_utf8 chars port_list lib.Utf8.encode
@@ -436,12 +436,12 @@ lines_of_another_stream_is_refused l = let e = (l.0.row.generated q_lines refl).
 pub never_lines_of_another_stream : NeverLegal lines_of_another_stream
 never_lines_of_another_stream = never lines_of_another_stream lines_of_another_stream_is_refused
 
-bytes_into_a_hole_is_refused : IsLegal bytes_into_a_hole → ⊥
+bytes_into_a_blackhole_is_refused : IsLegal bytes_into_a_blackhole → ⊥
 unfolding utf8_lossy utf8_valid_len is_utf8 chars port_list lib.Utf8.encode
-bytes_into_a_hole_is_refused l = let e = l.0.row.given in cc
+bytes_into_a_blackhole_is_refused l = let e = l.0.row.given in cc
 
-pub never_bytes_into_a_hole : NeverLegal bytes_into_a_hole
-never_bytes_into_a_hole = never bytes_into_a_hole bytes_into_a_hole_is_refused
+pub never_bytes_into_a_blackhole : NeverLegal bytes_into_a_blackhole
+never_bytes_into_a_blackhole = never bytes_into_a_blackhole bytes_into_a_blackhole_is_refused
 
 host_that_loses_is_refused : IsLegal host_that_loses → ⊥
 unfolding utf8_lossy utf8_valid_len is_utf8 chars port_list lib.Utf8.encode

@@ -19,7 +19,7 @@ legal1 = (record { row = record { first = refl; zeroth = refl; accepted = first_
 
 pub legal2 : IsLegal after2
 unfolding utf8_lossy utf8_valid_len is_utf8 chars port_list lib.Utf8.encode
-legal2 = (record { row = record { home = refl; unretired = refl; settled = refl; ready = inl refl; later = lit≤ tt; unpolled = refl }; turn = refl; still = λ a. cc }, legal1)
+legal2 = (record { row = record { unleased = refl; unretired = refl; settled = refl; ready = inl refl; later = lit≤ tt; unpolled = refl }; turn = refl; still = λ a. cc }, legal1)
 
 pub legal3 : IsLegal after3
 unfolding utf8_lossy utf8_valid_len is_utf8 chars port_list lib.Utf8.encode
@@ -31,7 +31,7 @@ legal4 = (record { row = record { out = refl }; turn = refl; still = λ a. cc },
 
 pub legal5 : IsLegal after5
 unfolding utf8_lossy utf8_valid_len is_utf8 chars port_list lib.Utf8.encode
-legal5 = (record { row = record { home = refl; unretired = refl; settled = refl; ready = inl refl; later = lit≤ tt; unpolled = refl }; turn = refl; still = λ a. cc }, legal4)
+legal5 = (record { row = record { unleased = refl; unretired = refl; settled = refl; ready = inl refl; later = lit≤ tt; unpolled = refl }; turn = refl; still = λ a. cc }, legal4)
 
 pub legal6 : IsLegal after6
 unfolding utf8_lossy utf8_valid_len is_utf8 chars port_list lib.Utf8.encode
@@ -47,15 +47,15 @@ legal8 = (record { row = record { out = refl }; turn = refl; still = λ a. cc },
 
 pub legal9 : IsLegal after9
 unfolding utf8_lossy utf8_valid_len is_utf8 chars port_list lib.Utf8.encode
-legal9 = (record { row = record { split = record { home = refl; none_waits = refl; oldest = refl; on_ports = refl; same_event = refl; some = lit< tt; made = refl }; fits = lit≤ tt }; turn = refl; still = λ a. cc }, legal8)
+legal9 = (record { row = record { split = record { unleased = refl; none_waits = refl; oldest = refl; on_ports = refl; same_event = refl; some = lit< tt; made = refl }; fits = lit≤ tt }; turn = refl; still = λ a. cc }, legal8)
 
 pub legal10 : IsLegal after10
 unfolding utf8_lossy utf8_valid_len is_utf8 chars port_list lib.Utf8.encode
-legal10 = (record { row = record { home = refl; oldest = refl; room = refl }; turn = refl; still = λ a. cc }, legal9)
+legal10 = (record { row = record { unleased = refl; oldest = refl; room = refl }; turn = refl; still = λ a. cc }, legal9)
 
 pub legal11 : IsLegal after11
 unfolding utf8_lossy utf8_valid_len is_utf8 chars port_list lib.Utf8.encode
-legal11 = (record { row = record { home = refl; unretired = refl; settled = refl; ready = inl refl; later = lit≤ tt; unpolled = refl }; turn = refl; still = λ a. cc }, legal10)
+legal11 = (record { row = record { unleased = refl; unretired = refl; settled = refl; ready = inl refl; later = lit≤ tt; unpolled = refl }; turn = refl; still = λ a. cc }, legal10)
 
 pub legal12 : IsLegal after12
 unfolding utf8_lossy utf8_valid_len is_utf8 chars port_list lib.Utf8.encode
@@ -63,7 +63,7 @@ legal12 = (record { row = record { out = refl; only_takes = refl; few = lit< tt;
 
 pub legal13 : IsLegal after13
 unfolding utf8_lossy utf8_valid_len is_utf8 chars port_list lib.Utf8.encode
-legal13 = (record { row = record { sink = refl; out = refl; once = refl; all = refl; batch_closed = refl; waited = lit≤ tt; given = refl; whole = λ e. refl; swallowed = λ e. cc }; turn = refl; still = λ a. cc }, legal12)
+legal13 = (record { row = record { sink = refl; out = refl; once = refl; all = refl; batch_closed = refl; waited = lit≤ tt; given = refl; whole = λ e. refl; blackhole_ok = λ e. cc }; turn = refl; still = λ a. cc }, legal12)
 
 pub legal14 : IsLegal after14
 unfolding utf8_lossy utf8_valid_len is_utf8 chars port_list lib.Utf8.encode
@@ -79,7 +79,7 @@ legal16 = (record { row = record { out = refl }; turn = refl; still = λ a. cc }
 
 pub legal17 : IsLegal after17
 unfolding utf8_lossy utf8_valid_len is_utf8 chars port_list lib.Utf8.encode
-legal17 = (record { row = record { home = refl; unretired = refl; settled = refl; ready = inl refl; later = lit≤ tt; unpolled = refl }; turn = refl; still = λ a. cc }, legal16)
+legal17 = (record { row = record { unleased = refl; unretired = refl; settled = refl; ready = inl refl; later = lit≤ tt; unpolled = refl }; turn = refl; still = λ a. cc }, legal16)
 
 pub legal18 : IsLegal after18
 unfolding utf8_lossy utf8_valid_len is_utf8 chars port_list lib.Utf8.encode
@@ -91,11 +91,11 @@ legal19 = (record { row = record { out = refl }; turn = refl; still = λ a. cc }
 
 pub legal20 : IsLegal after20
 unfolding utf8_lossy utf8_valid_len is_utf8 chars port_list lib.Utf8.encode
-legal20 = (record { row = record { known = refl; home = refl; unretired = refl; port_closed = λ d. refl; over = inl refl }; turn = refl; still = λ a. cc }, legal19)
+legal20 = (record { row = record { known = refl; unleased = refl; unretired = refl; port_closed = λ d. refl; over = inl refl }; turn = refl; still = λ a. cc }, legal19)
 
 pub legal21 : IsLegal after21
 unfolding utf8_lossy utf8_valid_len is_utf8 chars port_list lib.Utf8.encode
-legal21 = (record { row = record { home = refl; unretired = refl; settled = refl; ready = inl refl; later = lit≤ tt; unpolled = refl }; turn = refl; still = λ a. cc }, legal20)
+legal21 = (record { row = record { unleased = refl; unretired = refl; settled = refl; ready = inl refl; later = lit≤ tt; unpolled = refl }; turn = refl; still = λ a. cc }, legal20)
 
 pub legal22 : IsLegal after22
 unfolding utf8_lossy utf8_valid_len is_utf8 chars port_list lib.Utf8.encode
@@ -107,7 +107,7 @@ legal23 = (record { row = record { out = refl }; turn = refl; still = λ a. cc }
 
 pub legal24 : IsLegal after24
 unfolding utf8_lossy utf8_valid_len is_utf8 chars port_list lib.Utf8.encode
-legal24 = (record { row = record { home = refl; unretired = refl; settled = refl; ready = inl refl; later = lit≤ tt; unpolled = refl }; turn = refl; still = λ a. cc }, legal23)
+legal24 = (record { row = record { unleased = refl; unretired = refl; settled = refl; ready = inl refl; later = lit≤ tt; unpolled = refl }; turn = refl; still = λ a. cc }, legal23)
 
 pub legal25 : IsLegal after25
 unfolding utf8_lossy utf8_valid_len is_utf8 chars port_list lib.Utf8.encode
@@ -119,7 +119,7 @@ legal26 = (record { row = record { out = refl }; turn = refl; still = λ a. cc }
 
 pub legal27 : IsLegal after27
 unfolding utf8_lossy utf8_valid_len is_utf8 chars port_list lib.Utf8.encode
-legal27 = (record { row = record { known = refl; home = refl; unretired = refl; port_closed = λ d. refl; over = inl refl }; turn = refl; still = λ a. cc }, legal26)
+legal27 = (record { row = record { known = refl; unleased = refl; unretired = refl; port_closed = λ d. refl; over = inl refl }; turn = refl; still = λ a. cc }, legal26)
 
 spent : (c : ℕ) → IsLive after27 c → ⊥
 spent zero live = omega arith

@@ -1,7 +1,7 @@
 -- What the definitions say of closed things.
 use Rattle.std.specs.Prelude.{◌≡◌, ◌-◌, ◌^◌, Some, true, false, [], ◌∷◌, codes, map}
 use Rattle.std.specs.Str.Lossy.{utf8_lossy}
-use Rattle.vx_value.specs.Texts.{Word}
+use Rattle.vx_value.specs.Texts.{ByteString}
 use Rattle.vx_plan.specs.declared.component.Component.{Component}
 use Rattle.vx_plan.specs.declared.class.Class.TheVariants.{Transform, Sink}
 use Rattle.vx_plan.specs.declared.settings.Settings.TheVariants.{Filter, Console}
@@ -146,7 +146,7 @@ abbrev pub NoWait : Type 0
 NoWait = acknowledged (plan_with (source (codes "in") ∷ source (codes "out") ∷ acknowledging ∷ [])) (codes "out") ≡ false
 
 -- a filter that reads two inputs
-abbrev pub layer : Word → Word → Word → Component
+abbrev pub layer : ByteString → ByteString → ByteString → Component
 layer name left right = record { name = name; class = Transform; inputs = left ∷ right ∷ []; settings = Filter (codes ".message == \"k\"") }
 
 -- two transforms in each of eight layers, each of which reads both of the layer before, and a sink

@@ -23,8 +23,8 @@ demo = record {
   settings = DemoLogs (record { lines = codes "q" ∷ []; sequence = false; count = 2; seed = 0 }) 1;
 }
 
-abbrev pub hole : Component
-hole = record {
+abbrev pub blackhole : Component
+blackhole = record {
   name = codes "out";
   class = Sink;
   inputs = codes "in" ∷ [];
@@ -32,7 +32,7 @@ hole = record {
 }
 
 abbrev pub plan : Plan
-plan = plan_with (demo ∷ hole ∷ [])
+plan = plan_with (demo ∷ blackhole ∷ [])
 
 abbrev pub instances : List Instance
 instances = new_instance 0 (codes "in") ∷ new_instance 1 (codes "out") ∷ []

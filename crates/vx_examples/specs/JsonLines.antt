@@ -1,7 +1,7 @@
 -- The record of a run that reads JSON and writes JSON, on an object, an empty line and a line that is no object, as one
 -- worker makes it.
 use Rattle.std.specs.Prelude.{◌-◌, ◌^◌, pos, false, true, [], ◌∷◌, codes}
-use Rattle.vx_value.specs.Texts.{Word}
+use Rattle.vx_value.specs.Texts.{ByteString}
 use Rattle.vx_value.specs.declared.event.Event.{Event}
 use Rattle.vx_value.specs.Datum.{Words, Whole}
 use Rattle.vx_json.specs.declared.codec.Codec.TheVariants as codec
@@ -30,7 +30,7 @@ plan = plan_with
     } ∷ [])
 
 -- an object, nothing, and no object
-abbrev pub piece : Word
+abbrev pub piece : ByteString
 piece = codes "{\"a\":1}\n\nx\n"
 
 -- the event of the object, and the line that it is written as
@@ -39,7 +39,7 @@ event = record {
   fields = record { name = codes "a"; value = Whole (pos 1) } ∷ record { name = codes "source_type"; value = Words (codes "stdin") } ∷ [];
 }
 
-abbrev pub line : Word
+abbrev pub line : ByteString
 line = codes "{\"a\":1,\"source_type\":\"stdin\"}\n"
 
 -- the record after its first n entries

@@ -1,6 +1,6 @@
 -- Components and events of the examples.
 use Rattle.std.specs.Prelude.{ℕ, ◌-◌, ◌^◌, Bool, true, false, List, [], ◌∷◌, codes}
-use Rattle.vx_value.specs.Texts.{Word}
+use Rattle.vx_value.specs.Texts.{ByteString}
 use Rattle.vx_value.specs.declared.event.Event.{Event}
 use Rattle.vx_value.specs.Datum.{Words}
 use Rattle.vx_plan.specs.declared.plan.Plan.{Plan}
@@ -17,7 +17,7 @@ use Rattle.vx_record.specs.declared.child.Child.{Child}
 use Rattle.vx_record.specs.declared.instance.Instance.{Instance}
 use Rattle.vx_record.specs.declared.instance.Start.TheVariants.{New}
 
-abbrev pub source : Word → Component
+abbrev pub source : ByteString → Component
 source name = record { name = name; class = Source; inputs = []; settings = Stdin 102400 decoding.Bytes }
 
 abbrev pub block : Stage
@@ -39,7 +39,7 @@ options acknowledgements buffer most retries longest = record {
 }
 
 -- a console sink that reads one input
-abbrev pub sink : Word → Word → Stage → Component
+abbrev pub sink : ByteString → ByteString → Stage → Component
 sink name input stage = record {
   name = name;
   class = Sink;
@@ -48,7 +48,7 @@ sink name input stage = record {
 }
 
 -- the same, with as many retries of a failed attempt
-abbrev pub retrying : Word → Word → Stage → ℕ → Component
+abbrev pub retrying : ByteString → ByteString → Stage → ℕ → Component
 retrying name input stage retries = record {
   name = name;
   class = Sink;
@@ -63,7 +63,7 @@ abbrev pub pair : Stage
 pair = record { max_events = 2; when_full = Block }
 
 -- a sink with batches of two and a buffer of one and then two events
-abbrev pub batching : Word → Word → Component
+abbrev pub batching : ByteString → ByteString → Component
 batching name input = record {
   name = name;
   class = Sink;
@@ -72,7 +72,7 @@ batching name input = record {
 }
 
 -- a sink that makes batches wait, and tries nothing again
-abbrev pub acknowledging : Word → Word → Component
+abbrev pub acknowledging : ByteString → ByteString → Component
 acknowledging name input = record {
   name = name;
   class = Sink;
@@ -83,7 +83,7 @@ acknowledging name input = record {
 abbrev pub plan_with : List Component → Plan
 plan_with components = record { global = record { data_dir = codes "/var/lib/vector/"; acknowledgements = false }; components = components }
 
-abbrev pub new_instance : ℕ → Word → Instance
+abbrev pub new_instance : ℕ → ByteString → Instance
 new_instance number name = record { name = name; number = number; start = New }
 
 -- the event of a line of one byte

@@ -21,9 +21,9 @@ born_of_nothing = Born 0 0 0 [] [] false 0 0 ∷ unfinished.after3
 abbrev pub born_of_too_few : Record
 born_of_too_few = Born 0 0 0 (0 ∷ []) (event_with 97 ∷ event_with 98 ∷ []) false 0 4 ∷ first.after3
 
--- a Confirm of a source that is home
-abbrev pub confirm_at_home : Record
-confirm_at_home = Confirm 0 (record { stream = 0; end = 4 } ∷ []) true ∷ first.after20
+-- a Confirm of a source that is unleased
+abbrev pub confirm_unleased : Record
+confirm_unleased = Confirm 0 (record { stream = 0; end = 4 } ∷ []) true ∷ first.after20
 
 -- a Confirm of a sink
 abbrev pub confirm_of_a_sink : Record
@@ -45,9 +45,9 @@ push_to_a_later_stage = Push 0 1 1 (3 ∷ []) ∷ batched.after6
 abbrev pub idle_of_a_sink : Record
 idle_of_a_sink = Idle 1 false ∷ first.after10
 
--- a SourceLost of a source that is home
-abbrev pub lost_at_home : Record
-lost_at_home = SourceLost 0 4 false ∷ first.after20
+-- a SourceLost of a source that is unleased
+abbrev pub lost_unleased : Record
+lost_unleased = SourceLost 0 4 false ∷ first.after20
 
 -- a Split behind an Abandon
 abbrev pub split_after_an_abandon : Record
@@ -81,6 +81,6 @@ lease_without_its_birth = Lease 0 0 0 0 ∷ Home 0 ∷ first.after3
 abbrev pub given_up_elsewhere : Record
 given_up_elsewhere = Spent 0 2 Abandoned ∷ gone.after14
 
--- a Closed of an instance that is home
-abbrev pub closed_at_home : Record
-closed_at_home = Closed 0 ∷ first.after24
+-- a Closed of an instance that is unleased
+abbrev pub closed_unleased : Record
+closed_unleased = Closed 0 ∷ first.after24

@@ -7,7 +7,7 @@ use Rattle.vx_plan.specs.declared.component.Component.{Component}
 use Rattle.vx_plan.specs.declared.console_target.ConsoleTarget.TheVariants.{Stdout}
 use Rattle.vx_plan.specs.declared.plan.Plan.{Plan}
 use Rattle.vx_plan.specs.declared.settings.Settings.TheVariants.{Stdin, Filter, Console}
-use Rattle.vx_value.specs.Texts.{Word}
+use Rattle.vx_value.specs.Texts.{ByteString}
 use Rattle.vx_record.specs.Records.{Record}
 use Rattle.vx_record.specs.Wirings.{begun}
 use Rattle.vx_examples.specs.Parts.{source, sink, options, block, plan_with}
@@ -57,7 +57,7 @@ abbrev pub input_of_nobody : Record
 input_of_nobody = install_of (source (codes "in") ∷ sink (codes "out") (codes "no") block ∷ [])
 
 -- a filter
-abbrev pub filter_of : Word → List Word → Component
+abbrev pub filter_of : ByteString → List ByteString → Component
 filter_of name inputs = record { name = name; class = Transform; inputs = inputs; settings = Filter (codes ".message == \"k\"") }
 
 -- two filters, each of which reads the other

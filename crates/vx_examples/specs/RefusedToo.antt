@@ -120,13 +120,13 @@ confirmed_before_its_notice = Confirm 0 (record { stream = 0; end = 2 } ∷ []) 
 abbrev pub confirmed_past_an_error : Record
 confirmed_past_an_error = Confirm 0 (record { stream = 0; end = 4 } ∷ []) true ∷ waiting.after27
 
--- a Home of an instance that is home
-abbrev pub home_twice : Record
-home_twice = Home 0 ∷ first.after5
+-- a Home of an instance that is unleased
+abbrev pub returned_twice : Record
+returned_twice = Home 0 ∷ first.after5
 
 -- a Read without a Lease
-abbrev pub read_at_home : Record
-read_at_home = Read 0 0 (Bytes (97 ∷ 10 ∷ [])) ∷ first.after5
+abbrev pub read_unleased : Record
+read_unleased = Read 0 0 (Bytes (97 ∷ 10 ∷ [])) ∷ first.after5
 
 -- a Read of a sink
 abbrev pub read_of_a_sink : Record
@@ -161,12 +161,12 @@ abbrev pub push_while_out : Record
 push_while_out = Push 0 1 0 (2 ∷ []) ∷ Lease 0 0 0 0 ∷ first.after6
 
 -- a Take without a Lease
-abbrev pub take_at_home : Record
-take_at_home = Take 1 0 (2 ∷ []) ∷ first.after9
+abbrev pub take_unleased : Record
+take_unleased = Take 1 0 (2 ∷ []) ∷ first.after9
 
 -- an Attempt without a Lease
-abbrev pub attempt_at_home : Record
-attempt_at_home = Attempt 1 (2 ∷ []) (97 ∷ 10 ∷ []) Ok ∷ Home 1 ∷ first.after11
+abbrev pub attempt_unleased : Record
+attempt_unleased = Attempt 1 (2 ∷ []) (97 ∷ 10 ∷ []) Ok ∷ Home 1 ∷ first.after11
 
 -- two Confirms under one Lease
 abbrev pub confirmed_twice : Record

@@ -16,9 +16,9 @@ use Rattle.vx_examples.specs.Overflowing as overflowing
 use Rattle.vx_examples.specs.Generated as generated
 use Rattle.vx_examples.specs.Chained as chained
 
--- an Answer of a transform that is at home
-abbrev pub answer_at_home : Record
-answer_at_home = Answer 1 [] [] [] ∷ filtered.after9
+-- an Answer of a transform that is unleased
+abbrev pub answer_unleased : Record
+answer_unleased = Answer 1 [] [] [] ∷ filtered.after9
 
 -- an Answer of a sink
 abbrev pub answer_of_a_sink : Record
@@ -141,8 +141,8 @@ abbrev pub lines_past_the_count : Record
 lines_past_the_count = Read 0 0 (Bytes (113 ∷ 10 ∷ [])) ∷ generated.after26
 
 -- an Attempt of a sink without a port that is refused
-abbrev pub refused_by_a_hole : Record
-refused_by_a_hole = Attempt 1 (1 ∷ []) [] Refused ∷ generated.after9
+abbrev pub refused_by_a_blackhole : Record
+refused_by_a_blackhole = Attempt 1 (1 ∷ []) [] Refused ∷ generated.after9
 
 -- a Push into a stage while an earlier one has room
 abbrev pub push_past_the_first_stage : Record
@@ -164,9 +164,9 @@ answer_after_an_abandon = Answer 1 (record { ports = 1; copies = 3 ∷ []; event
 abbrev pub tick_after_an_abandon : Record
 tick_after_an_abandon = Tick 1 1000 ∷ Abandon WantOfMemory ∷ joined.after22
 
--- a Tick of a transform that is at home
-abbrev pub tick_at_home : Record
-tick_at_home = Tick 1 1000 ∷ joined.after21
+-- a Tick of a transform that is unleased
+abbrev pub tick_unleased : Record
+tick_unleased = Tick 1 1000 ∷ joined.after21
 
 -- a flush while parcels are in the buffer
 abbrev pub flush_with_contents : Record
@@ -181,8 +181,8 @@ abbrev pub lines_of_another_stream : Record
 lines_of_another_stream = Read 0 1 (Bytes (113 ∷ 10 ∷ [])) ∷ generated.after2
 
 -- an Attempt of a sink without a port that gives bytes
-abbrev pub bytes_into_a_hole : Record
-bytes_into_a_hole = Attempt 1 (1 ∷ []) (113 ∷ 10 ∷ []) Ok ∷ generated.after9
+abbrev pub bytes_into_a_blackhole : Record
+bytes_into_a_blackhole = Attempt 1 (1 ∷ []) (113 ∷ 10 ∷ []) Ok ∷ generated.after9
 
 -- a host that loses a copy
 abbrev pub host_that_loses : Record
@@ -212,7 +212,7 @@ host_past_the_last_port = Answer 3 (record { ports = 2 ^ 65; copies = 8 ∷ []; 
 abbrev pub two_ticks : Record
 two_ticks = Tick 3 0 ∷ chained.after33
 
--- a host that came home behind a Tick without an Answer, and is leased again
+-- a host that came back behind a Tick without an Answer, and is leased again
 abbrev pub ticked_host : Record
 ticked_host = Lease 3 0 0 0 ∷ Home 3 ∷ Tick 3 0 ∷ chained.after31
 

@@ -22,13 +22,13 @@ ghost use Rattle.vx_examples.specs.Retried.{run as retried};
 ghost use Rattle.vx_examples.specs.Overflowing.{run as overflowing};
 ghost use Rattle.vx_examples.specs.Generated.{run as generated};
 ghost use Rattle.vx_examples.specs.Chained.{run as chained};
-ghost use Rattle.vx_examples.specs.RefusedTransforms.{answer_at_home, answer_of_a_sink, answer_that_loses, answer_that_doubles, answer_of_another_copy, answer_in_another_order, filter_that_keeps, lease_owing_an_answer, lease_owing_a_discard, second_answer, filtered_though_passed, take_behind_an_answer, split_of_another_port, split_of_another_event, tick_of_a_filter, lease_of_an_idle_transform, retired_with_a_kept_parcel, unread_though_a_way_is_read, split_of_an_unread_port, no_such_port, lease_before_the_tick, tick_at_another_moment, second_tick, flush_too_soon, joined_in_another_order, joined_with_another_event, young_group_put_out, split_of_a_part, notice_of_another_batch, other_lines, lines_past_the_count, refused_by_a_hole, push_past_the_first_stage, dropped_with_room_behind, take_past_the_first_stage, answer_after_an_abandon, tick_after_an_abandon, tick_at_home, flush_with_contents, ended_with_lines_left, lines_of_another_stream, bytes_into_a_hole, host_that_loses, repeat_put_out, second_put_out, host_without_a_copy, host_on_no_port, host_past_the_last_port, two_ticks, ticked_host, take_behind_a_tick, keeping_host, flush_that_keeps, ended_on_another_stream, hasty_retry, restless_lease};
+ghost use Rattle.vx_examples.specs.RefusedTransforms.{answer_unleased, answer_of_a_sink, answer_that_loses, answer_that_doubles, answer_of_another_copy, answer_in_another_order, filter_that_keeps, lease_owing_an_answer, lease_owing_a_discard, second_answer, filtered_though_passed, take_behind_an_answer, split_of_another_port, split_of_another_event, tick_of_a_filter, lease_of_an_idle_transform, retired_with_a_kept_parcel, unread_though_a_way_is_read, split_of_an_unread_port, no_such_port, lease_before_the_tick, tick_at_another_moment, second_tick, flush_too_soon, joined_in_another_order, joined_with_another_event, young_group_put_out, split_of_a_part, notice_of_another_batch, other_lines, lines_past_the_count, refused_by_a_blackhole, push_past_the_first_stage, dropped_with_room_behind, take_past_the_first_stage, answer_after_an_abandon, tick_after_an_abandon, tick_unleased, flush_with_contents, ended_with_lines_left, lines_of_another_stream, bytes_into_a_blackhole, host_that_loses, repeat_put_out, second_put_out, host_without_a_copy, host_on_no_port, host_past_the_last_port, two_ticks, ticked_host, take_behind_a_tick, keeping_host, flush_that_keeps, ended_on_another_stream, hasty_retry, restless_lease};
 ghost use Rattle.vx_examples.specs.RefusedPlans.{two_of_one_name, source_that_writes, source_that_listens, sink_without_a_stage, no_source, no_sink, sink_without_an_input, input_of_nobody, filters_in_a_round};
 ghost use Rattle.vx_examples.specs.RefusedJsonLines.{born_of_no_object, born_before_the_last_line, written_as_text};
 ghost use Rattle.vx_examples.specs.Facts.{SourceCounts, SinkCounts, SourceBytes, SinkBytes, Positions, NewestCounts, UnreadCounts, FailedCounts, UnconfirmedCounts, RefusedCounts, UndecodableCounts, FilterCounts, RouteCounts, ReduceCounts, JoinedCounts, TwoBatchCounts, OverflowCounts, GeneratorCounts, LayersWait, LayersDontWait, RestsBehindARead, RestsBehindAnIdle, RestsBehindAFailedStart, RetryMoment, Cut, CutOpen, CutShort, Likeness, Readers, NoReaders, Waits, NoWait, RetryWaits, Replaced, EmptyRead, RetryAtTheEnd, TimeoutAtTheEnd};
 ghost use Rattle.vx_examples.specs.RefusedFanOuts.{swapped_targets, copy_of_another_child, notice_before_the_third, delivered_past_a_refusal, errored_by_a_refusal};
-ghost use Rattle.vx_examples.specs.RefusedMore.{born_of_nothing, born_of_too_few, confirm_at_home, confirm_of_a_sink, retired_stranger, second_notice, push_to_a_later_stage, idle_of_a_sink, lost_at_home, split_after_an_abandon, attempt_of_nothing, closed_before_its_confirm, closed_with_a_parcel, closed_with_a_held_parcel, lease_before_its_notice, lease_without_its_birth, given_up_elsewhere, closed_at_home};
-ghost use Rattle.vx_examples.specs.RefusedToo.{no_install, later_version, missing_instances, polled_lease, falling_moment, lease_of_the_retired, fifth_idle, lost_too_soon, lost_at_another_byte, take_of_a_later_stage, take_after_an_attempt, early_attempt, second_attempt, attempt_of_a_part, spent_by_no_failure, filtered_by_a_sink, unread_though_read, newest_with_room, given_up_without_an_abandon, spent_after_a_split, confirmed_again, retired_with_a_copy, second_abandon, waiting_missed, confirmed_before_its_notice, confirmed_past_an_error, home_twice, read_at_home, read_of_a_sink, born_by_another, born_of_another_stream, born_late, split_while_a_child_waits, split_on_another_port, split_to_nobody, push_while_out, take_at_home, attempt_at_home, confirmed_twice, closed_twice, retired_while_out, retired_twice, numbers_not_used_up};
+ghost use Rattle.vx_examples.specs.RefusedMore.{born_of_nothing, born_of_too_few, confirm_unleased, confirm_of_a_sink, retired_stranger, second_notice, push_to_a_later_stage, idle_of_a_sink, lost_unleased, split_after_an_abandon, attempt_of_nothing, closed_before_its_confirm, closed_with_a_parcel, closed_with_a_held_parcel, lease_before_its_notice, lease_without_its_birth, given_up_elsewhere, closed_unleased};
+ghost use Rattle.vx_examples.specs.RefusedToo.{no_install, later_version, missing_instances, polled_lease, falling_moment, lease_of_the_retired, fifth_idle, lost_too_soon, lost_at_another_byte, take_of_a_later_stage, take_after_an_attempt, early_attempt, second_attempt, attempt_of_a_part, spent_by_no_failure, filtered_by_a_sink, unread_though_read, newest_with_room, given_up_without_an_abandon, spent_after_a_split, confirmed_again, retired_with_a_copy, second_abandon, waiting_missed, confirmed_before_its_notice, confirmed_past_an_error, returned_twice, read_unleased, read_of_a_sink, born_by_another, born_of_another_stream, born_late, split_while_a_child_waits, split_on_another_port, split_to_nobody, push_while_out, take_unleased, attempt_unleased, confirmed_twice, closed_twice, retired_while_out, retired_twice, numbers_not_used_up};
 ghost use Rattle.vx_examples.specs.Refused.{NeverLegal, second_install, lease_without_work, lease_of_one_out, second_read, lost_line, wrong_position, needless_wait, used_number, split_of_the_younger, split_while_out, shared_copy, child_for_another, changed_event, push_past_room, pushed_twice, take_of_the_younger, take_past_the_batch, part_answered_ok, other_bytes, delivered_after_a_failure, spent_twice, spent_elsewhere, early_notice, late_notice, wrong_status, early_confirm, confirm_of_less, lease_of_a_debtor, read_past_the_end, close_too_soon, retired_with_its_port_open, grace_without_a_stop, lease_after_an_abandon, delivered_after_an_abandon};
 
 /// The record of a run of the first configuration on two lines is legal, and nothing is left to do in it.
@@ -180,8 +180,8 @@ pub fn refused_too()
     ensures waiting_missed { NeverLegal waiting_missed }
     ensures confirmed_before_its_notice { NeverLegal confirmed_before_its_notice }
     ensures confirmed_past_an_error { NeverLegal confirmed_past_an_error }
-    ensures home_twice { NeverLegal home_twice }
-    ensures read_at_home { NeverLegal read_at_home }
+    ensures returned_twice { NeverLegal returned_twice }
+    ensures read_unleased { NeverLegal read_unleased }
     ensures read_of_a_sink { NeverLegal read_of_a_sink }
     ensures born_by_another { NeverLegal born_by_another }
     ensures born_of_another_stream { NeverLegal born_of_another_stream }
@@ -190,8 +190,8 @@ pub fn refused_too()
     ensures split_on_another_port { NeverLegal split_on_another_port }
     ensures split_to_nobody { NeverLegal split_to_nobody }
     ensures push_while_out { NeverLegal push_while_out }
-    ensures take_at_home { NeverLegal take_at_home }
-    ensures attempt_at_home { NeverLegal attempt_at_home }
+    ensures take_unleased { NeverLegal take_unleased }
+    ensures attempt_unleased { NeverLegal attempt_unleased }
     ensures confirmed_twice { NeverLegal confirmed_twice }
     ensures closed_twice { NeverLegal closed_twice }
     ensures retired_while_out { NeverLegal retired_while_out }
@@ -203,13 +203,13 @@ pub fn refused_too()
 pub fn more_refused()
     ensures born_of_nothing { NeverLegal born_of_nothing }
     ensures born_of_too_few { NeverLegal born_of_too_few }
-    ensures confirm_at_home { NeverLegal confirm_at_home }
+    ensures confirm_unleased { NeverLegal confirm_unleased }
     ensures confirm_of_a_sink { NeverLegal confirm_of_a_sink }
     ensures retired_stranger { NeverLegal retired_stranger }
     ensures second_notice { NeverLegal second_notice }
     ensures push_to_a_later_stage { NeverLegal push_to_a_later_stage }
     ensures idle_of_a_sink { NeverLegal idle_of_a_sink }
-    ensures lost_at_home { NeverLegal lost_at_home }
+    ensures lost_unleased { NeverLegal lost_unleased }
     ensures split_after_an_abandon { NeverLegal split_after_an_abandon }
     ensures attempt_of_nothing { NeverLegal attempt_of_nothing }
     ensures closed_before_its_confirm { NeverLegal closed_before_its_confirm }
@@ -218,7 +218,7 @@ pub fn more_refused()
     ensures lease_before_its_notice { NeverLegal lease_before_its_notice }
     ensures lease_without_its_birth { NeverLegal lease_without_its_birth }
     ensures given_up_elsewhere { NeverLegal given_up_elsewhere }
-    ensures closed_at_home { NeverLegal closed_at_home }
+    ensures closed_unleased { NeverLegal closed_unleased }
 {}
 
 /// And these, each of which differs from the run with three targets in one entry.
@@ -270,7 +270,7 @@ pub fn transforming_runs()
 
 /// And records each of which differs from one of these runs in one entry.
 pub fn refused_transforms()
-    ensures answer_at_home { NeverLegal answer_at_home }
+    ensures answer_unleased { NeverLegal answer_unleased }
     ensures answer_of_a_sink { NeverLegal answer_of_a_sink }
     ensures answer_that_loses { NeverLegal answer_that_loses }
     ensures answer_that_doubles { NeverLegal answer_that_doubles }
@@ -301,17 +301,17 @@ pub fn refused_transforms()
     ensures notice_of_another_batch { NeverLegal notice_of_another_batch }
     ensures other_lines { NeverLegal other_lines }
     ensures lines_past_the_count { NeverLegal lines_past_the_count }
-    ensures refused_by_a_hole { NeverLegal refused_by_a_hole }
+    ensures refused_by_a_blackhole { NeverLegal refused_by_a_blackhole }
     ensures push_past_the_first_stage { NeverLegal push_past_the_first_stage }
     ensures dropped_with_room_behind { NeverLegal dropped_with_room_behind }
     ensures take_past_the_first_stage { NeverLegal take_past_the_first_stage }
     ensures answer_after_an_abandon { NeverLegal answer_after_an_abandon }
     ensures tick_after_an_abandon { NeverLegal tick_after_an_abandon }
-    ensures tick_at_home { NeverLegal tick_at_home }
+    ensures tick_unleased { NeverLegal tick_unleased }
     ensures flush_with_contents { NeverLegal flush_with_contents }
     ensures ended_with_lines_left { NeverLegal ended_with_lines_left }
     ensures lines_of_another_stream { NeverLegal lines_of_another_stream }
-    ensures bytes_into_a_hole { NeverLegal bytes_into_a_hole }
+    ensures bytes_into_a_blackhole { NeverLegal bytes_into_a_blackhole }
     ensures host_that_loses { NeverLegal host_that_loses }
     ensures repeat_put_out { NeverLegal repeat_put_out }
     ensures second_put_out { NeverLegal second_put_out }

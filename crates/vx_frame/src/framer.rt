@@ -56,7 +56,7 @@ impl Framer {
 
     /// How many lines were longer than the limit since this was asked last. The count begins anew.
     pub fn take_overlong(&mut self) -> u64
-        ensures told { result ≡ self.old.overlong }
+        ensures observed { result ≡ self.old.overlong }
         ensures anew { self.new.overlong ≡ 0 }
         ensures limit { self.new.limit ≡ self.old.limit }
         ensures streams { (stream : ℕ) → unfinished self.new stream ≡ unfinished self.old stream }

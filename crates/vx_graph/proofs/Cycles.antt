@@ -3,7 +3,7 @@ use Rattle.std.proofs.Common.{◌≡◌, ℕ, ◌<◌, ◌≤◌, Bool, true, fa
 use Rattle.std.proofs.lemmas.Bool.{cases_lt, false≢true}
 use Rattle.std.proofs.lemmas.List.{length-map, get_or_past}
 use Rattle.std.proofs.lemmas.List.Elements.{All-map, All-nil, All-cons}
-use Rattle.vx_value.specs.Texts.{Word}
+use Rattle.vx_value.specs.Texts.{ByteString}
 use Rattle.vx_graph.specs.declared.node.Node.{Node}
 use Rattle.vx_graph.specs.Outputs.{row_of, rows_of}
 use Rattle.vx_graph.specs.Rounds.{edge, marked, Linked, IsRound, Settled, AllSettled, IsSquare}
@@ -54,6 +54,6 @@ no_round rows (i ∷ rest) all h =
     no_round_from rows i (all i (linked_within rows (i ∷ rest) i h 0 0 (omega arith))) rest h
 
 pub no_cycle : (nodes : List Node) (rows : List (List Bool)) (marks : List Bool) → rows ≡ rows_of nodes → length marks ≡ length rows
-    → AllSettled rows marks → ((i : ℕ) → i < length marks → marked marks i ≡ true) → (texts : List Word) → IsCycle nodes texts → ⊥
+    → AllSettled rows marks → ((i : ℕ) → i < length marks → marked marks i ≡ true) → (texts : List ByteString) → IsCycle nodes texts → ⊥
 no_cycle nodes rows marks is same settled all texts cycle =
     no_round rows cycle.places (λ i lt. settled i (all i (omega arith))) (subst (λ r. IsRound r cycle.places) (sym is) cycle.round)

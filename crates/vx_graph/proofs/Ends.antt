@@ -3,16 +3,16 @@ use Rattle.std.proofs.Common.{◌≡◌, ◌≢◌, ℕ, Bool, true, false, not,
 use Rattle.std.proofs.lemmas.Bool.{false≢true}
 use Rattle.std.proofs.lemmas.Bool.Decides.{eqb_tells}
 use Rattle.std.specs.List.{list_any}
-use Rattle.vx_value.specs.Texts.{Word, is_empty}
+use Rattle.vx_value.specs.Texts.{ByteString, is_empty}
 use Rattle.vx_graph.specs.Patterns.{star, ends, behind, is_like}
 use Rattle.vx_graph.proofs.Likeness.{which}
 
 -- what a first byte of a pattern leaves to compare
-abbrev leaves : ℕ → Word → Word → Bool → Bool
+abbrev leaves : ℕ → ByteString → ByteString → Bool → Bool
 leaves c p t starred = list_any (is_like p) (if starred then ends t else behind c t)
 
 -- where a first byte of a text is that of the pattern
-abbrev goes_on : Word → Word → Bool → Bool
+abbrev goes_on : ByteString → ByteString → Bool → Bool
 goes_on p t same = list_any (is_like p) (if same then t ∷ [] else [])
 
 or_none : (b : Bool) → b ≡ false → (b || false) ≡ false
@@ -31,7 +31,7 @@ not_same a b n = elim (eqb_tells a b) [
 ]
 
 -- a form that ends in a byte is unlike nothing at all
-unlike_none : (q : Word) (a : ℕ) → a ≢ star → is_like (q ++ a ∷ []) [] ≡ false
+unlike_none : (q : ByteString) (a : ℕ) → a ≢ star → is_like (q ++ a ∷ []) [] ≡ false
 unlike_none [] a n = ap (leaves a [] []) (not_star a n)
 unlike_none (c ∷ q) a n = elim (which (c == star)) [
   | inl e ↦ ap (leaves c (q ++ a ∷ []) []) e ∙ or_none (is_like (q ++ a ∷ []) []) (unlike_none q a n)
@@ -39,13 +39,13 @@ unlike_none (c ∷ q) a n = elim (which (c == star)) [
 ]
 
 -- what holds of no end that has the last byte, and not of nothing, holds of no end
-no_end : (f : Word → Bool) (b : ℕ) → ((v : Word) → f (v ++ b ∷ []) ≡ false) → f [] ≡ false → (u : Word)
+no_end : (f : ByteString → Bool) (b : ℕ) → ((v : ByteString) → f (v ++ b ∷ []) ≡ false) → f [] ≡ false → (u : ByteString)
     → list_any f (ends (u ++ b ∷ [])) ≡ false
 no_end f b each none [] = ap₂ (λ x y. x || y) (each []) (or_none (f []) none)
 no_end f b each none (x ∷ u) = ap₂ (λ x y. x || y) (each (x ∷ u)) (no_end f b each none u)
 
 -- a pattern and a text that end in two bytes, of which the first is no `*`
-pub unlike_ends : (q : Word) (a b : ℕ) → a ≢ star → a ≢ b → (u : Word) → is_like (q ++ a ∷ []) (u ++ b ∷ []) ≡ false
+pub unlike_ends : (q : ByteString) (a b : ℕ) → a ≢ star → a ≢ b → (u : ByteString) → is_like (q ++ a ∷ []) (u ++ b ∷ []) ≡ false
 unlike_ends [] a b n m [] =
     ap (leaves a [] (b ∷ [])) (not_star a n) ∙ ap (goes_on [] []) (not_same a b m)
 unlike_ends [] a b n m (x ∷ u) =
@@ -55,7 +55,7 @@ unlike_ends [] a b n m (x ∷ u) =
       | inr e ↦ ap (goes_on [] (u ++ b ∷ [])) e
     ]
   where
-    more : (u : Word) (b : ℕ) → is_empty (u ++ b ∷ []) ≡ false
+    more : (u : ByteString) (b : ℕ) → is_empty (u ++ b ∷ []) ≡ false
     more [] b = refl
     more (x ∷ u) b = refl
 unlike_ends (c ∷ q) a b n m [] = elim (which (c == star)) [
@@ -81,6 +81,6 @@ differ a b h = elim (eqb_tells a b) [
   | inr e ↦ e.1
 ]
 
-pub apart : (p t : Word) (a b : ℕ) → (q : Word) × (p ≡ q ++ a ∷ []) → (u : Word) × (t ≡ u ++ b ∷ []) → a ≢ star → not (a == b) ≡ true
+pub apart : (p t : ByteString) (a b : ℕ) → (q : ByteString) × (p ≡ q ++ a ∷ []) → (u : ByteString) × (t ≡ u ++ b ∷ []) → a ≢ star → not (a == b) ≡ true
     → is_like p t ≡ false
 apart p t a b (q, e) (u, f) n h = ap₂ is_like e f ∙ unlike_ends q a b n (differ a b h) u

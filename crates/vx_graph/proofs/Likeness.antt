@@ -4,11 +4,11 @@ use Rattle.std.proofs.lemmas.Bool.{false≢true}
 use Rattle.std.proofs.lemmas.Bool.Decides.{eqb_tells}
 use Rattle.std.proofs.lemmas.List.{drop-drop, length-drop, drop_all}
 use Rattle.std.specs.List.{list_any}
-use Rattle.vx_value.specs.Texts.{Word, is_empty}
+use Rattle.vx_value.specs.Texts.{ByteString, is_empty}
 use Rattle.vx_graph.specs.Patterns.{star, ends, behind, is_like, shared, some_end, starts}
 
 -- a byte that isn't `*` is itself
-pub literal : (c d : ℕ) (p t : Word) → ((c == d) && not (c == star)) ≡ true → is_like (c ∷ p) (d ∷ t) ≡ is_like p t
+pub literal : (c d : ℕ) (p t : ByteString) → ((c == d) && not (c == star)) ≡ true → is_like (c ∷ p) (d ∷ t) ≡ is_like p t
 literal c d p t h =
     elim (eqb_tells c star) [
       | inl s ↦ absurd (false≢true (both_false c d s.0 ∙ h))
@@ -36,7 +36,7 @@ which true = inl refl
 which false = inr refl
 
 -- what is shared counts for nothing
-pub shared_off : (p t : Word) → is_like p t ≡ is_like (drop (shared p t) p) (drop (shared p t) t)
+pub shared_off : (p t : ByteString) → is_like p t ≡ is_like (drop (shared p t) p) (drop (shared p t) t)
 shared_off [] t = refl
 shared_off (c ∷ p) [] = refl
 shared_off (c ∷ p) (d ∷ t) =
@@ -51,10 +51,10 @@ or_false_true true e = refl
 or_false_true false e = e
 
 -- an end of a text that is of the pattern's form
-abbrev pub HasEnd : Word → Word → Type 0
+abbrev pub HasEnd : ByteString → ByteString → Type 0
 HasEnd p t = (k : ℕ) × (k ≤ length t) × (is_like p (drop k t) ≡ true)
 
-pub has_end : (p t : Word) → some_end p t ≡ true → HasEnd p t
+pub has_end : (p t : ByteString) → some_end p t ≡ true → HasEnd p t
 has_end p [] h = (0, omega arith, or_false_true (is_like p []) h)
 has_end p (x ∷ t) h =
     elim (which (is_like p (x ∷ t))) [
@@ -64,7 +64,7 @@ has_end p (x ∷ t) h =
           (suc later.0, omega (arith, later.1), later.2)
     ]
 
-pub from_end : (p t : Word) (k : ℕ) → k ≤ length t → is_like p (drop k t) ≡ true → some_end p t ≡ true
+pub from_end : (p t : ByteString) (k : ℕ) → k ≤ length t → is_like p (drop k t) ≡ true → some_end p t ≡ true
 from_end p [] zero le h = ap (λ z. z || false) h
 from_end p [] (suc k) le h = absurd (omega arith)
 from_end p (x ∷ t) zero le h = ap (λ z. z || some_end p t) h
@@ -76,8 +76,8 @@ from_end p (x ∷ t) (suc k) le h =
     or_true false = refl
 
 -- what follows a first byte that is no `*`, in an end that is of the pattern's form
-behind_literal : (c : ℕ) (p s : Word) → (c == star) ≡ false → is_like (c ∷ p) s ≡ true
-    → (r : Word) × (s ≡ c ∷ r) × (is_like p r ≡ true)
+behind_literal : (c : ℕ) (p s : ByteString) → (c == star) ≡ false → is_like (c ∷ p) s ≡ true
+    → (r : ByteString) × (s ≡ c ∷ r) × (is_like p r ≡ true)
 behind_literal c p [] n h = absurd (false≢true (ap (λ z. list_any (is_like p) (if z then ends [] else behind c [])) (sym n) ∙ h))
 behind_literal c p (d ∷ r) n h =
     let as_behind : list_any (is_like p) (behind c (d ∷ r)) ≡ true =
@@ -91,11 +91,11 @@ behind_literal c p (d ∷ r) n h =
     ]
 
 -- equal lists have equal rests
-rest_same : (x y : ℕ) (xs ys : Word) → x ∷ xs ≡ y ∷ ys → xs ≡ ys
+rest_same : (x y : ℕ) (xs ys : ByteString) → x ∷ xs ≡ y ∷ ys → xs ≡ ys
 rest_same x y xs ys h = cc
 
 -- a pattern that begins with `*` shares nothing
-pub shared_star : (c : ℕ) (p t : Word) → (c == star) ≡ true → shared (c ∷ p) t ≡ 0
+pub shared_star : (c : ℕ) (p t : ByteString) → (c == star) ≡ true → shared (c ∷ p) t ≡ 0
 shared_star c p [] s = refl
 shared_star c p (d ∷ t) s =
     ap (λ z. if (c == d) && not z then suc (shared p t) else 0) s ∙ ap (λ z. if z then suc (shared p t) else 0) (and_false (c == d))
@@ -105,11 +105,11 @@ shared_star c p (d ∷ t) s =
     and_false false = refl
 
 -- a pattern that begins with `*` is like a text with an end like the rest
-star_end : (c : ℕ) (p s : Word) → (c == star) ≡ true → is_like (c ∷ p) s ≡ some_end p s
+star_end : (c : ℕ) (p s : ByteString) → (c == star) ≡ true → is_like (c ∷ p) s ≡ some_end p s
 star_end c p s e = ap (λ z. list_any (is_like p) (if z then ends s else behind c s)) e
 
 -- where the first byte is no `*`, the text goes on likewise or shares nothing
-shared_on : (c d : ℕ) (p t rest : Word) → (c == star) ≡ false → drop (shared (c ∷ p) (d ∷ t)) (c ∷ p) ≡ star ∷ rest
+shared_on : (c d : ℕ) (p t rest : ByteString) → (c == star) ≡ false → drop (shared (c ∷ p) (d ∷ t)) (c ∷ p) ≡ star ∷ rest
     → (shared (c ∷ p) (d ∷ t) ≡ suc (shared p t)) × (drop (shared p t) p ≡ star ∷ rest)
 shared_on c d p t rest n e =
     elim (which ((c == d) && not (c == star))) [
@@ -121,11 +121,11 @@ shared_on c d p t rest n e =
           absurd (false≢true (sym n ∙ ap (λ x. x == star) (first_same c star p rest none)))
     ]
   where
-    first_same : (x y : ℕ) (xs ys : Word) → x ∷ xs ≡ y ∷ ys → x ≡ y
+    first_same : (x y : ℕ) (xs ys : ByteString) → x ∷ xs ≡ y ∷ ys → x ≡ y
     first_same x y xs ys h = cc
 
 -- where a `*` follows what is shared, an end that is like the pattern has an end behind the `*` in what is left
-pub past_star : (p t rest : Word) (k : ℕ) → drop (shared p t) p ≡ star ∷ rest → k ≤ length t → is_like p (drop k t) ≡ true
+pub past_star : (p t rest : ByteString) (k : ℕ) → drop (shared p t) p ≡ star ∷ rest → k ≤ length t → is_like p (drop k t) ≡ true
     → HasEnd rest (drop (shared p t) t)
 past_star [] t rest k e le h = absurd (cc)
 past_star (c ∷ p) t rest k e le h =
@@ -136,7 +136,7 @@ past_star (c ∷ p) t rest k e le h =
           at_literal c p t rest k r n e le is like (λ u m. past_star p u rest m)
     ]
   where
-    at_star : (c : ℕ) (p t rest : Word) (k : ℕ) → (c == star) ≡ true → drop (shared (c ∷ p) t) (c ∷ p) ≡ star ∷ rest → k ≤ length t
+    at_star : (c : ℕ) (p t rest : ByteString) (k : ℕ) → (c == star) ≡ true → drop (shared (c ∷ p) t) (c ∷ p) ≡ star ∷ rest → k ≤ length t
         → is_like (c ∷ p) (drop k t) ≡ true → HasEnd rest (drop (shared (c ∷ p) t) t)
     at_star c p t rest k s e le h =
         let none : shared (c ∷ p) t ≡ 0 = shared_star c p t s in
@@ -148,9 +148,9 @@ past_star (c ∷ p) t rest k e le h =
         in
         subst (λ m. HasEnd rest (drop m t)) (sym none) (k + some.0, omega (arith, some.1, length-drop k t), like)
 
-    at_literal : (c : ℕ) (p t rest : Word) (k : ℕ) (r : Word) → (c == star) ≡ false → drop (shared (c ∷ p) t) (c ∷ p) ≡ star ∷ rest → k ≤ length t
+    at_literal : (c : ℕ) (p t rest : ByteString) (k : ℕ) (r : ByteString) → (c == star) ≡ false → drop (shared (c ∷ p) t) (c ∷ p) ≡ star ∷ rest → k ≤ length t
         → drop k t ≡ c ∷ r → is_like p r ≡ true
-        → ((u : Word) (m : ℕ) → drop (shared p u) p ≡ star ∷ rest → m ≤ length u → is_like p (drop m u) ≡ true → HasEnd rest (drop (shared p u) u))
+        → ((u : ByteString) (m : ℕ) → drop (shared p u) p ≡ star ∷ rest → m ≤ length u → is_like p (drop m u) ≡ true → HasEnd rest (drop (shared p u) u))
         → HasEnd rest (drop (shared (c ∷ p) t) t)
     at_literal c p [] rest k r n e le is like on = absurd (omega (arith, ap length is, length-drop {A = ℕ} k []))
     at_literal c p (d ∷ t) rest zero r n e le is like on =
@@ -165,19 +165,19 @@ past_star (c ∷ p) t rest k e le h =
         (on t (m + 1) more.1 (omega (arith, ap length is, length-drop m t)) like')
 
 -- nothing is shared with nothing
-shared_nil : (p : Word) → shared p [] ≡ 0
+shared_nil : (p : ByteString) → shared p [] ≡ 0
 shared_nil [] = refl
 shared_nil (c ∷ p) = refl
 
-pub shared_none : (p t : Word) (n : ℕ) → length t ≤ n → shared (drop n p) (drop n t) ≡ 0
+pub shared_none : (p t : ByteString) (n : ℕ) → length t ≤ n → shared (drop n p) (drop n t) ≡ 0
 shared_none p t n h = ap (shared (drop n p)) (drop_all n t h) ∙ shared_nil (drop n p)
 
 -- at a `*` behind what is shared, only what is left counts, and each earlier place may be forgotten
-pub like_at_star : (p t rest : Word) → drop (shared p t) p ≡ star ∷ rest → is_like p t ≡ some_end rest (drop (shared p t) t)
+pub like_at_star : (p t rest : ByteString) → drop (shared p t) p ≡ star ∷ rest → is_like p t ≡ some_end rest (drop (shared p t) t)
 like_at_star p t rest e =
     shared_off p t ∙ ap (λ q. is_like q (drop (shared p t) t)) e ∙ star_end star rest (drop (shared p t) t) refl
 
-pub end_at_star : (p t rest : Word) → drop (shared p t) p ≡ star ∷ rest → some_end p t ≡ some_end rest (drop (shared p t) t)
+pub end_at_star : (p t rest : ByteString) → drop (shared p t) p ≡ star ∷ rest → some_end p t ≡ some_end rest (drop (shared p t) t)
 end_at_star p t rest e =
     elim (which (some_end p t)) [
       | inl found ↦
@@ -192,7 +192,7 @@ end_at_star p t rest e =
     ]
 
 -- where neither a `*` nor the end of both follows what is shared, the text is not of the pattern's form
-pub differs : (c d : ℕ) (p t : Word) → (c == star) ≡ false → ((c == d) && not (c == star)) ≡ false → is_like (c ∷ p) (d ∷ t) ≡ false
+pub differs : (c d : ℕ) (p t : ByteString) → (c == star) ≡ false → ((c == d) && not (c == star)) ≡ false → is_like (c ∷ p) (d ∷ t) ≡ false
 differs c d p t n h =
     let apart : (c == d) ≡ false = and_true (c == d) (ap (λ z. (c == d) && not z) (sym n) ∙ h) in
     ap (λ z. list_any (is_like p) (if z then ends (d ∷ t) else behind c (d ∷ t))) n
@@ -202,7 +202,7 @@ differs c d p t n h =
     and_true true e = e
     and_true false e = refl
 
-pub unlike : (p t : Word) → starts star (drop (shared p t) p) ≡ false
+pub unlike : (p t : ByteString) → starts star (drop (shared p t) p) ≡ false
     → (is_empty (drop (shared p t) p) && is_empty (drop (shared p t) t)) ≡ false → is_like p t ≡ false
 unlike [] [] n h = h
 unlike [] (x ∷ t) n h = refl
@@ -220,37 +220,37 @@ unlike (c ∷ p) (d ∷ t) n h =
     ]
 
 -- the next end
-pub end_next : (p t : Word) (x : ℕ) → is_like p (x ∷ t) ≡ false → some_end p (x ∷ t) ≡ some_end p t
+pub end_next : (p t : ByteString) (x : ℕ) → is_like p (x ∷ t) ≡ false → some_end p (x ∷ t) ≡ some_end p t
 end_next p t x h = ap (λ z. z || some_end p t) h
 
-pub end_last : (p : Word) → is_like p [] ≡ false → some_end p [] ≡ false
+pub end_last : (p : ByteString) → is_like p [] ≡ false → some_end p [] ≡ false
 end_last p h = ap (λ z. z || false) h
 
 -- where both end, the text is of the pattern's form
-both_end : (x y : Word) → (is_empty x && is_empty y) ≡ true → is_like x y ≡ true
+both_end : (x y : ByteString) → (is_empty x && is_empty y) ≡ true → is_like x y ≡ true
 both_end [] y h = h
 both_end (c ∷ x) y h = absurd (false≢true h)
 
-pub like_end : (p t : Word) → (is_empty (drop (shared p t) p) && is_empty (drop (shared p t) t)) ≡ true → is_like p t ≡ true
+pub like_end : (p t : ByteString) → (is_empty (drop (shared p t) p) && is_empty (drop (shared p t) t)) ≡ true → is_like p t ≡ true
 like_end p t h = shared_off p t ∙ both_end (drop (shared p t) p) (drop (shared p t) t) h
 
 -- one turn of the comparison: the answer, by whether a `*` came before
-abbrev pub answer : Bool → Word → Word → Bool
+abbrev pub answer : Bool → ByteString → ByteString → Bool
 answer starred p t = if starred then some_end p t else is_like p t
 
-pub turn_star : (starred : Bool) (p t rest : Word) → drop (shared p t) p ≡ star ∷ rest
+pub turn_star : (starred : Bool) (p t rest : ByteString) → drop (shared p t) p ≡ star ∷ rest
     → answer starred p t ≡ answer true rest (drop (shared p t) t)
 turn_star true p t rest e = end_at_star p t rest e
 turn_star false p t rest e = like_at_star p t rest e
 
-pub turn_end : (starred : Bool) (p t : Word) → is_like p t ≡ true → answer starred p t ≡ true
+pub turn_end : (starred : Bool) (p t : ByteString) → is_like p t ≡ true → answer starred p t ≡ true
 turn_end true p t e = from_end p t 0 (omega arith) e
 turn_end false p t e = e
 
-pub turn_on : (p t rest : Word) (x : ℕ) → is_like p t ≡ false → t ≡ x ∷ rest → answer true p t ≡ answer true p rest
+pub turn_on : (p t rest : ByteString) (x : ℕ) → is_like p t ≡ false → t ≡ x ∷ rest → answer true p t ≡ answer true p rest
 turn_on p t rest x off e = ap (some_end p) e ∙ end_next p rest x (ap (is_like p) (sym e) ∙ off)
 
-pub turn_out : (starred : Bool) (p t : Word) → is_like p t ≡ false → t ≡ [] → answer starred p t ≡ false
+pub turn_out : (starred : Bool) (p t : ByteString) → is_like p t ≡ false → t ≡ [] → answer starred p t ≡ false
 turn_out true p t off e = ap (some_end p) e ∙ end_last p (ap (is_like p) (sym e) ∙ off)
 turn_out false p t off e = off
 

@@ -4,20 +4,20 @@ use lib.Pointwise.{pointwise}
 use Rattle.std.proofs.lemmas.Bool.Decides.{eqb_tells, nat_tests}
 use Rattle.std.proofs.lemmas.List.{drop_more, drop_all}
 use Rattle.std.specs.List.{position_or_len}
-use Rattle.vx_value.specs.Texts.{Word, same_text, text_le}
+use Rattle.vx_value.specs.Texts.{ByteString, same_text, text_le}
 use Rattle.vx_graph.specs.Order.{node_le, enter, in_order, enter_all}
 use Rattle.vx_graph.specs.declared.node.Node.{Node}
 use Rattle.vx_graph.proofs.Likeness.{which}
 
 -- std compares texts in the same way
-pub same_text_is : (s t : Word) → pointwise nat_eq s t ≡ same_text s t
+pub same_text_is : (s t : ByteString) → pointwise nat_eq s t ≡ same_text s t
 same_text_is [] [] = refl
 same_text_is [] (b ∷ t) = refl
 same_text_is (a ∷ s) [] = refl
 same_text_is (a ∷ s) (b ∷ t) = ap (λ z. (a == b) && z) (same_text_is s t)
 
 -- texts that begin alike are compared by their rests, others by their first bytes
-pub le_alike : (x y : ℕ) (s t : Word) → x ≡ y → text_le (x ∷ s) (y ∷ t) ≡ text_le s t
+pub le_alike : (x y : ℕ) (s t : ByteString) → x ≡ y → text_le (x ∷ s) (y ∷ t) ≡ text_le s t
 le_alike x y s t e = elim (eqb_tells x y) [
   | inl h ↦ ap (λ z. z || ((x == y) && text_le s t)) (not_below x y e) ∙ ap (λ z. z && text_le s t) h.0
   | inr h ↦ absurd (h.1 e)
@@ -26,7 +26,7 @@ le_alike x y s t e = elim (eqb_tells x y) [
     not_below : (x y : ℕ) → x ≡ y → nat_lt x y ≡ false
     not_below x y e = grind (arith, nat_tests)
 
-pub le_apart : (x y : ℕ) (s t : Word) → x ≢ y → text_le (x ∷ s) (y ∷ t) ≡ nat_lt x y
+pub le_apart : (x y : ℕ) (s t : ByteString) → x ≢ y → text_le (x ∷ s) (y ∷ t) ≡ nat_lt x y
 le_apart x y s t n = elim (eqb_tells x y) [
   | inl h ↦ absurd (n h.1)
   | inr h ↦ ap (λ z. nat_lt x y || (z && text_le s t)) h.0 ∙ or_false (nat_lt x y)
@@ -36,24 +36,24 @@ le_apart x y s t n = elim (eqb_tells x y) [
     or_false true = refl
     or_false false = refl
 
-pub le_more : (s t : Word) (i : ℕ) → i < length s → i < length t → get_or s i 0 ≡ get_or t i 0
+pub le_more : (s t : ByteString) (i : ℕ) → i < length s → i < length t → get_or s i 0 ≡ get_or t i 0
     → text_le (drop i s) (drop i t) ≡ text_le (drop (i + 1) s) (drop (i + 1) t)
 le_more s t i hs ht e =
     ap (λ z. text_le z (drop i t)) (drop_more s i 0 hs)
     ∙ ap (text_le (get_or s i 0 ∷ drop (i + 1) s)) (drop_more t i 0 ht)
     ∙ le_alike (get_or s i 0) (get_or t i 0) (drop (i + 1) s) (drop (i + 1) t) e
 
-pub le_stops : (s t : Word) (i : ℕ) → i < length s → i < length t → get_or s i 0 ≢ get_or t i 0
+pub le_stops : (s t : ByteString) (i : ℕ) → i < length s → i < length t → get_or s i 0 ≢ get_or t i 0
     → text_le (drop i s) (drop i t) ≡ nat_lt (get_or s i 0) (get_or t i 0)
 le_stops s t i hs ht n =
     ap (λ z. text_le z (drop i t)) (drop_more s i 0 hs)
     ∙ ap (text_le (get_or s i 0 ∷ drop (i + 1) s)) (drop_more t i 0 ht)
     ∙ le_apart (get_or s i 0) (get_or t i 0) (drop (i + 1) s) (drop (i + 1) t) n
 
-pub le_end : (s t : Word) (i : ℕ) → length s ≤ i → text_le (drop i s) (drop i t) ≡ true
+pub le_end : (s t : ByteString) (i : ℕ) → length s ≤ i → text_le (drop i s) (drop i t) ≡ true
 le_end s t i h = ap (λ z. text_le z (drop i t)) (drop_all i s h)
 
-pub le_past : (s t : Word) (i : ℕ) → i < length s → length t ≤ i → text_le (drop i s) (drop i t) ≡ false
+pub le_past : (s t : ByteString) (i : ℕ) → i < length s → length t ≤ i → text_le (drop i s) (drop i t) ≡ false
 le_past s t i hs ht =
     ap (λ z. text_le z (drop i t)) (drop_more s i 0 hs) ∙ ap (text_le (get_or s i 0 ∷ drop (i + 1) s)) (drop_all i t ht)
 

@@ -2,18 +2,18 @@
 use Rattle.std.proofs.Common.{◌≡◌, ℕ, ◌+◌, ◌<◌, suc, Bool, not, cond, Some, find, List, [], ◌∷◌, length, get_or, map, sym, ap, ◌∙◌, subst, inl, inr, arith}
 use Rattle.std.proofs.lemmas.List.{get_or-map, length-map}
 use Rattle.std.specs.List.{position_or_len}
-use Rattle.vx_value.specs.Texts.{Word, same_text}
+use Rattle.vx_value.specs.Texts.{ByteString, same_text}
 use Rattle.vx_graph.specs.declared.node.Node.{Node}
 use Rattle.vx_graph.specs.Outputs.{outputs_of, output_text, readers, readers_of}
 use Rattle.vx_graph.specs.Targets.{node_named, port_count, ports_in, targets, targets_in}
 use Rattle.vx_graph.proofs.Likeness.{which}
 
 -- whether a component has a name
-abbrev pub has_name : Word → Node → Bool
+abbrev pub has_name : ByteString → Node → Bool
 has_name name node = same_text node.name name
 
 -- a component with a port stands at its place
-pub named_place : (nodes : List Node) (name : Word) (port : ℕ) → port < port_count nodes name
+pub named_place : (nodes : List Node) (name : ByteString) (port : ℕ) → port < port_count nodes name
     → (position_or_len (has_name name) nodes < length nodes)
     × ((d : Node) → node_named nodes name ≡ Some (get_or nodes (position_or_len (has_name name) nodes) d))
 named_place [] name port lt = absurd (omega arith)
@@ -39,7 +39,7 @@ named_place (n ∷ rest) name port lt =
     ]
 
 -- its targets stand there too
-pub targets_at : (nodes : List Node) (lists : List (List (List Word))) (name : Word) (port i : ℕ)
+pub targets_at : (nodes : List Node) (lists : List (List (List ByteString))) (name : ByteString) (port i : ℕ)
     → lists ≡ map (readers_of nodes) nodes → port < port_count nodes name → i ≡ position_or_len (has_name name) nodes
     → (i < length lists) × (port < length (get_or lists i [])) × (get_or (get_or lists i []) port [] ≡ targets nodes name port)
 targets_at [] lists name port i is lt at = absurd (omega arith)

@@ -2,7 +2,7 @@
 use Rattle.std.proofs.Common.{◌≡◌, ◌<◌, ◌++◌, ℕ, zero, suc, Bool, true, false, not, ◌&&◌, ◌||◌, List, [], ◌∷◌, nat_lt, arith, refl}
 use Rattle.std.specs.Prelude.{slice_index_or}
 use Rattle.std.proofs.lemmas.Bool.Decides.{nat_tests}
-use Rattle.vx_value.specs.Texts.{Word}
+use Rattle.vx_value.specs.Texts.{ByteString}
 use Rattle.vx_graph.specs.declared.node.Node.{Node}
 use Rattle.vx_graph.specs.Cycles.{IsCycle}
 use Rattle.vx_graph.specs.Outputs.{rows_of}
@@ -58,5 +58,5 @@ no_round ranks rows falls [] round = round
 no_round ranks rows falls (i ∷ rest) round = let less = falls_along ranks rows falls i i rest round in omega (arith, less)
 
 -- so there is no cycle
-pub no_cycle : (ranks : List ℕ) (nodes : List Node) → ranks_fall ranks (rows_of nodes) ≡ true → (texts : List Word) → IsCycle nodes texts → ⊥
+pub no_cycle : (ranks : List ℕ) (nodes : List Node) → ranks_fall ranks (rows_of nodes) ≡ true → (texts : List ByteString) → IsCycle nodes texts → ⊥
 no_cycle ranks nodes falls texts cycle = no_round ranks (rows_of nodes) falls cycle.places cycle.round

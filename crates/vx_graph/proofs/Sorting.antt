@@ -7,14 +7,14 @@ use Rattle.std.proofs.lemmas.List.Kept.{AllPairs-cons}
 use Rattle.std.proofs.lemmas.List.Sorted.{IsPermutation-refl, IsPermutation-cons, IsPermutation-insert, IsPermutation-trans, All-permutation}
 use Rattle.std.specs.List.{position_or_len}
 use Rattle.std.specs.List.Sorted.{IsPermutation}
-use Rattle.vx_value.specs.Texts.{Word, text_le}
+use Rattle.vx_value.specs.Texts.{ByteString, text_le}
 use Rattle.vx_graph.specs.Order.{node_le, enter, in_order, IsInOrder}
 use Rattle.vx_graph.specs.declared.node.Node.{Node}
 use Rattle.vx_graph.proofs.Likeness.{which}
 use Rattle.vx_graph.proofs.Names.{enter_is, le_alike, le_apart}
 
 -- of two texts one comes no later than the other
-pub le_total : (s t : Word) → text_le s t ≡ false → text_le t s ≡ true
+pub le_total : (s t : ByteString) → text_le s t ≡ false → text_le t s ≡ true
 le_total [] t h = absurd (false≢true (sym h))
 le_total (a ∷ s) [] h = refl
 le_total (a ∷ s) (b ∷ t) h = elim (eqb_tells a b) [
@@ -26,7 +26,7 @@ le_total (a ∷ s) (b ∷ t) h = elim (eqb_tells a b) [
     above a b n h = grind (arith, nat_tests)
 
 -- a text that comes no later than one, which comes no later than a third, comes no later than the third
-pub le_trans : (s t u : Word) → text_le s t ≡ true → text_le t u ≡ true → text_le s u ≡ true
+pub le_trans : (s t u : ByteString) → text_le s t ≡ true → text_le t u ≡ true → text_le s u ≡ true
 le_trans [] t u h g = refl
 le_trans (a ∷ s) [] u h g = absurd (false≢true h)
 le_trans (a ∷ s) (b ∷ t) [] h g = absurd (false≢true g)

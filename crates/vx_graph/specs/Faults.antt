@@ -1,7 +1,7 @@
 -- Which graph is accepted, and which fault a refused one has. The components are in byte order.
 use Rattle.std.specs.Prelude.{◌≡◌, Bool, true, false, not, ◌&&◌, Option, Some, None, option_map, List, [], ◌∷◌, find}
 use Rattle.std.specs.List.{list_any}
-use Rattle.vx_value.specs.Texts.{Word, is_empty}
+use Rattle.vx_value.specs.Texts.{ByteString, is_empty}
 use Rattle.vx_graph.specs.declared.node.Node.{Node}
 use Rattle.vx_graph.specs.declared.graph_fault.GraphFault.{GraphFault}
 use Rattle.vx_graph.specs.declared.graph_fault.GraphFault.TheVariants.{NoSources, NoSinks, NoInputs, UnknownInput, Cycle, WantOfMemory}
@@ -14,27 +14,27 @@ abbrev pub lacks_inputs : Node → Bool
 lacks_inputs node = not (is_source node) && is_empty node.inputs
 
 -- the name of the first component that must read somebody and has no input
-abbrev pub first_bare : List Node → Option Word
+abbrev pub first_bare : List Node → Option ByteString
 first_bare nodes = option_map name_of (find lacks_inputs nodes)
 
 -- a component's first input that means no output
-abbrev pub unknown_in : List Node → Node → Option Word
+abbrev pub unknown_in : List Node → Node → Option ByteString
 unknown_in nodes reader = find (λ input. not (is_known nodes reader.name input)) reader.inputs
 
 -- a component's name and one of its inputs
 pub record Unknown : Type 0 where
-  pub reader : Word
-  pub input : Word
+  pub reader : ByteString
+  pub input : ByteString
 
--- of two findings the first
-abbrev pub first_finding : Word → Option Word → Option Unknown → Option Unknown
-first_finding reader None later = later
-first_finding reader (Some input) later = Some (record { reader = reader; input = input })
+-- of two unknown inputs the first
+abbrev pub first_diagnostic : ByteString → Option ByteString → Option Unknown → Option Unknown
+first_diagnostic reader None later = later
+first_diagnostic reader (Some input) later = Some (record { reader = reader; input = input })
 
 -- the first component, of some, with an input that means no output, and its first such input
 abbrev pub unknown_among : List Node → List Node → Option Unknown
 unknown_among nodes [] = None
-unknown_among nodes (reader ∷ rest) = first_finding reader.name (unknown_in nodes reader) (unknown_among nodes rest)
+unknown_among nodes (reader ∷ rest) = first_diagnostic reader.name (unknown_in nodes reader) (unknown_among nodes rest)
 
 -- the first component with an input that means no output, and its first such input
 abbrev pub first_unknown : List Node → Option Unknown
@@ -46,7 +46,7 @@ pub record IsAccepted (nodes : List Node) : Type 0 where
   pub sinks : list_any is_sink nodes ≡ true
   pub inputs : first_bare nodes ≡ None
   pub known : first_unknown nodes ≡ None
-  pub acyclic : (texts : List Word) → IsCycle nodes texts → ⊥
+  pub acyclic : (texts : List ByteString) → IsCycle nodes texts → ⊥
 
 -- a source and a sink are there
 abbrev pub HasEnds : List Node → Type 0

@@ -1,5 +1,5 @@
 ghost use Rattle.std.specs.Prelude.{◌≡◌, ◌<◌, ◌≤◌, ℕ, List, true, false, not, length, map, IfOk, MatchOption, Contains, All};
-ghost use Rattle.vx_value.specs.Texts.{Word};
+ghost use Rattle.vx_value.specs.Texts.{ByteString};
 ghost use Rattle.vx_graph.specs.Cycles.{IsCycle, name_at};
 ghost use Rattle.vx_graph.specs.Outputs.{rows_of};
 ghost use Rattle.vx_graph.specs.Rounds.{marked};
@@ -45,7 +45,7 @@ pub fn find_cycle(
 ) -> Result<Option<TextList>, WantOfMemory>
     requires { rows.now ≡ rows_of nodes.now }
     ensures { IfOk result
-        (λ found. MatchOption found ((texts : List Word) → IsCycle nodes.now texts → ⊥)
+        (λ found. MatchOption found ((texts : List ByteString) → IsCycle nodes.now texts → ⊥)
         (λ texts. IsCycle nodes.now texts)) }
 {
     let marks = settled(alloc, rows)?;

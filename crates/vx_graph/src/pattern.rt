@@ -1,5 +1,5 @@
 ghost use Rattle.std.specs.Prelude.{◌≡◌, ℕ, true, false, [], ◌∷◌, ◌++◌, MatchOption, ◌&&◌};
-ghost use Rattle.vx_value.specs.Texts.{Word};
+ghost use Rattle.vx_value.specs.Texts.{ByteString};
 ghost use Rattle.vx_graph.specs.Outputs.{output_text};
 ghost use Rattle.vx_graph.specs.Turns.{IsTurn, left_text};
 ghost use Rattle.vx_graph.specs.Patterns.{is_like, has_star};
@@ -113,7 +113,7 @@ fn compare<'a>(form: &'a [u8], text: Left<'a>) -> Turn<'a>
 /// The last byte of some.
 fn last_of(text: &[u8]) -> Option<u8>
     ensures { MatchOption result (text.now ≡ [])
-        (λ last. (front : Word) × (text.now ≡ front ++ last ∷ [])) }
+        (λ last. (front : ByteString) × (text.now ≡ front ++ last ∷ [])) }
 {
     match text {
         [.., last] => Some(*last),
@@ -124,7 +124,7 @@ fn last_of(text: &[u8]) -> Option<u8>
 /// The last byte of a text.
 fn last_left(text: Left) -> Option<u8>
     ensures { MatchOption result (left_text text.entry ≡ [])
-        (λ last. (front : Word) × (left_text text.entry ≡ front ++ last ∷ [])) }
+        (λ last. (front : ByteString) × (left_text text.entry ≡ front ++ last ∷ [])) }
 {
     match last_of(text.port) {
         Some(last) => Some(last),

@@ -5,7 +5,7 @@ use Rattle.std.specs.Prelude.{◌^◌, ◌&&◌, if◌then◌else◌, map, IsSom
 use Rattle.std.proofs.lemmas.Bool.{and_from, cases_eq, cases_lt}
 use Rattle.std.proofs.lemmas.List.{length_push}
 use Rattle.std.proofs.lemmas.Option.{IfSome_then, slice_get_past, slice_get_read, slice_get-get_or}
-use Rattle.vx_ends.specs.Told.{Told, Fits}
+use Rattle.vx_ends.specs.Observation.{Observation, Fits}
 use Rattle.vx_plan.specs.declared.component.Component.{Component}
 use Rattle.vx_plan.specs.declared.plan.Plan.{Plan}
 use Rattle.vx_plan.specs.declared.stage.Stage.{Stage}
@@ -17,7 +17,7 @@ use Rattle.vx_plan.specs.Ports.{port_of}
 use Rattle.vx_record.specs.declared.entry.Entry.TheVariants.{Install}
 use Rattle.vx_record.specs.Records.{Record}
 use Rattle.vx_record.specs.Generating.{lines_at_once}
-use Rattle.vx_record.specs.Installs.{component_of, told, device_at}
+use Rattle.vx_record.specs.Installs.{component_of, component_or, device_at}
 use Rattle.vx_record.specs.Judges.{is_judging}
 use Rattle.vx_record.specs.Places.Place.{Held}
 use Rattle.vx_record.specs.Reads.{all_ended}
@@ -34,27 +34,27 @@ use Rattle.vx_counts.proofs.Begun.{begun_first, begun_stays}
 use Rattle.vx_places.specs.Views.{row_at, parcels_here}
 use Rattle.vx_places.specs.declared.row.Row.{Row}
 use Rattle.vx_places.specs.Holding.{Holds}
-use Rattle.vx_places.specs.Rooms.{rooms_at, rooms_if, held_room}
+use Rattle.vx_places.specs.Capacities.{capacities_at, capacities_if, held_capacity}
 use Rattle.vx_places.proofs.Steps.{holds_step, still_shifts}
 use Rattle.vx_tasks.specs.declared.task.Role.{Role}
 use Rattle.vx_tasks.specs.declared.task.Role.TheVariants.{Source, Generator, Sink, Blackhole, Transform, Merge, Unfit}
-use Rattle.vx_tasks.specs.Home.{StandsAt, HasCome, IsAtHome}
-use Rattle.vx_tasks.specs.Telling.{IsTold, HasCounted, spec_by, spec_of}
-use Rattle.vx_seats.specs.declared.seat.Seat.{Seat}
-use Rattle.vx_seats.specs.Beginning.{AreNew, IsFresh, AreFresh}
-use Rattle.vx_seats.specs.Knowing.{Knows}
-use Rattle.vx_seats.proofs.Staying.{written, other_seat}
-use Rattle.vx_moves.specs.declared.books.Books.{Books}
+use Rattle.vx_tasks.specs.Unleased.{StandsAt, HasCome, IsTaskOf}
+use Rattle.vx_tasks.specs.Observing.{IsObserved, HasCounted, spec_by, spec_of}
+use Rattle.vx_instances.specs.declared.state.InstanceState.{InstanceState}
+use Rattle.vx_instances.specs.Beginning.{AreNew, IsFresh, AreFresh}
+use Rattle.vx_instances.specs.Knowing.{Knows}
+use Rattle.vx_instances.proofs.Staying.{written, other_state}
+use Rattle.vx_moves.specs.declared.engine.EngineState.{EngineState}
 use Rattle.vx_tasks.specs.Joining.{joins_at}
 use Rattle.vx_keeping.specs.Kept.{Kept}
 use Rattle.vx_moves.specs.Keepers.{keeper_at, OthersJudge}
-use Rattle.vx_landing.proofs.Lending.{room_lent}
-use Rattle.vx_moves.specs.Rooms.{planned_rooms, hand_of, IsHandOf}
+use Rattle.vx_landing.proofs.Lending.{capacity_lent}
+use Rattle.vx_moves.specs.Capacities.{planned_capacities, held_limit_of, IsHeldLimitOf}
 use Rattle.vx_moves.specs.Stands.{Stands}
 use Rattle.vx_hub.specs.declared.hub.Hub.{Hub}
-use Rattle.vx_hub.specs.declared.making.Room.{Room}
+use Rattle.vx_hub.specs.declared.making.Allocated.{Allocated}
 use Rattle.vx_hub.specs.declared.parts.Named.{Named}
-use Rattle.vx_hub.specs.Beginning.{IsBegun, at_once, IsWorkerFor, IsRoleFor, IsRoleBut, AreFor, HasRoomFor, HaveRooms, AreRoledFrom, AreSeatedFrom}
+use Rattle.vx_hub.specs.Beginning.{IsBegun, at_once, IsWorkerFor, IsRoleFor, IsRoleBut, AreFor, IsAllocatedFor, HaveCapacities, AreRoledFrom, AreTaskedFrom}
 use Rattle.vx_hub.specs.Making.{AreSlots, IsUntouched, AreUntouched, IsPickerFor, ArePickers, is_served, all_served}
 use Rattle.vx_hub.specs.Standing.{AreSources, AreMergers, IsHub, merges}
 use Rattle.vx_hub.proofs.Kept.{slots_at, slots_size, whose_if, kept_if, hand_says, hand_seen, alone_room, joined_room}
@@ -100,14 +100,14 @@ popped {X} {xs} zs ys {x} parts same =
     let is = λ (i : ℕ) (l : i < length zs + 1). ap (λ (vs : List X). slice_get vs i) (sym parts) ∙ same i (omega (arith, size, l)) in
     (λ i l. sym (before_last zs x i l) ∙ is i (omega (arith, l)), sym (is (length zs) (omega arith)) ∙ at_last zs x, size)
 
--- one seat more, before those that have a role and a port
-pub seated_more : {P : Type 0} (before : List (Seat P)) (roles : List Role) (ports : List (Named P))
-    (seats : List (Seat P)) (n : ℕ) {was : Seat P} {role : Role} {named : Named P} → n < length seats →
-    slice_get before n ≡ Some was → slice_get roles n ≡ Some role → slice_get ports n ≡ Some named → AreSeatedFrom (n + 1) before roles ports seats →
-    AreSeatedFrom n before roles ports (slice_set seats n (record was { task = Some (record { port = named.port; role = role }) }))
-seated_more before roles ports seats n {was} {role} {named} within there role_is named_is rest j l = elim (cases_eq j n) [
-  | inl same ↦ rw (same, written seats n (record was { task = Some (record { port = named.port; role = role }) }) within, there, role_is, named_is)
-  | inr other ↦ rw (other_seat seats n j (record was { task = Some (record { port = named.port; role = role }) }) other) (rest j (omega (arith, l, other)))
+-- one state more, before those that have a role and a port
+pub tasked_more : {P : Type 0} (before : List (InstanceState P)) (roles : List Role) (ports : List (Named P))
+    (states : List (InstanceState P)) (n : ℕ) {was : InstanceState P} {role : Role} {named : Named P} → n < length states →
+    slice_get before n ≡ Some was → slice_get roles n ≡ Some role → slice_get ports n ≡ Some named → AreTaskedFrom (n + 1) before roles ports states →
+    AreTaskedFrom n before roles ports (slice_set states n (record was { task = Some (record { port = named.port; role = role }) }))
+tasked_more before roles ports states n {was} {role} {named} within there role_is named_is rest j l = elim (cases_eq j n) [
+  | inl same ↦ rw (same, written states n (record was { task = Some (record { port = named.port; role = role }) }) within, there, role_is, named_is)
+  | inr other ↦ rw (other_state states n j (record was { task = Some (record { port = named.port; role = role }) }) other) (rest j (omega (arith, l, other)))
 ]
 
 -- a list with another item in one place
@@ -175,27 +175,27 @@ pickers_at (d ∷ rest) (picker ∷ pickers) all zero = all.0
 pickers_at (d ∷ rest) (picker ∷ pickers) all (suc i) = pickers_at rest pickers all.1 i
 
 -- with what a transform picks by a role is whole
-whole_role : (role : Role) (picker : Option Picker) (c : Component) → IsRoleBut role c → IsPickerFor c picker →
+full_role : (role : Role) (picker : Option Picker) (c : Component) → IsRoleBut role c → IsPickerFor c picker →
     IsRoleFor (elim picker [ None ↦ role | Some p ↦ Transform p ]) c
-whole_role (Source core) None c but of = but
-whole_role (Generator maker) None c but of = but
-whole_role (Sink codec) None c but of = but
-whole_role Blackhole None c but of = but
-whole_role (Transform p) None c but of = absurd but
-whole_role Merge None c but of = but
-whole_role Unfit None c but (inl other) = let is = but.0 in cc
-whole_role Unfit None c but (inr merging) = let alone = but.1 in cc
-whole_role role (Some p) c but of = of.1
+full_role (Source core) None c but of = but
+full_role (Generator maker) None c but of = but
+full_role (Sink codec) None c but of = but
+full_role Blackhole None c but of = but
+full_role (Transform p) None c but of = absurd but
+full_role Merge None c but of = but
+full_role Unfit None c but (inl other) = let is = but.0 in cc
+full_role Unfit None c but (inr merging) = let alone = but.1 in cc
+full_role role (Some p) c but of = of.1
 
-pub whole_roles : (components : List Component) (roles : List Role) (pickers : List (Option Picker)) (roled : List Role) →
+pub full_roles : (components : List Component) (roles : List Role) (pickers : List (Option Picker)) (roled : List Role) →
     AreFor IsRoleBut components roles → ArePickers components pickers → AreRoledFrom 0 roles pickers roled → AreFor IsRoleFor components roled
-whole_roles components roles pickers roled but of each i = IfSome_then (slice_get roled i) (each i (omega arith)) (λ is has.
+full_roles components roles pickers roled but of each i = IfSome_then (slice_get roled i) (each i (omega arith)) (λ is has.
     with_some (slice_get roles i) has (λ was was_there picked.
     with_some (slice_get pickers i) picked (λ picker there made.
     let bare : IsSomeAnd (slice_get components i) (IsRoleBut was) = rw was_there at (but i) in
     with_some (slice_get components i) bare (λ c c_there fits.
     let picks : IsPickerFor c picker = rw (there, c_there) at (pickers_at components pickers of i) in
-    rw (c_there, made) (whole_role was picker c fits picks)))))
+    rw (c_there, made) (full_role was picker c fits picks)))))
 
 -- as many have what they pick by as there are
 pub pickers_size : (components : List Component) (pickers : List (Option Picker)) → ArePickers components pickers → length pickers ≡ length components
@@ -204,14 +204,14 @@ pickers_size [] (picker ∷ pickers) all = absurd all
 pickers_size (d ∷ rest) [] all = absurd all
 pickers_size (d ∷ rest) (picker ∷ pickers) all = ap suc (pickers_size rest pickers all.1)
 
--- SEATS
-untouched_at : {P : Type 0} (told_by : P → Told) (needs : Component → Option PortSpec) (components : List Component) (ports : List (Named P)) →
-    AreUntouched told_by needs components ports → (i : ℕ) →
-    IfSome (slice_get ports i) (λ named. IfSome (slice_get components i) (λ c. IsUntouched (needs c) (told_by named.port)))
-untouched_at told_by needs components [] all i = tt
-untouched_at told_by needs [] (n ∷ ports) all i = absurd all
-untouched_at told_by needs (d ∷ rest) (n ∷ ports) all zero = all.0
-untouched_at told_by needs (d ∷ rest) (n ∷ ports) all (suc i) = untouched_at told_by needs rest ports all.1 i
+-- STATES
+untouched_at : {P : Type 0} (observe : P → Observation) (needs : Component → Option PortSpec) (components : List Component) (ports : List (Named P)) →
+    AreUntouched observe needs components ports → (i : ℕ) →
+    IfSome (slice_get ports i) (λ named. IfSome (slice_get components i) (λ c. IsUntouched (needs c) (observe named.port)))
+untouched_at observe needs components [] all i = tt
+untouched_at observe needs [] (n ∷ ports) all i = absurd all
+untouched_at observe needs (d ∷ rest) (n ∷ ports) all zero = all.0
+untouched_at observe needs (d ∷ rest) (n ∷ ports) all (suc i) = untouched_at observe needs rest ports all.1 i
 
 fit_role : (role : Role) (c : Component) → IsRoleFor role c → role ≢ Unfit
 fit_role (Source core) c is = λ e. cc
@@ -251,14 +251,14 @@ module _ {plan : Plan} (accepted : IsPlan plan) (i : ℕ) {c : Component}
       ap spec_by (wiring_of_first plan once now i c there)
       ∙ ap (λ (o : Option Component). elim o as (λ _. Option PortSpec) [ None ↦ None | Some d ↦ port_of once plan.global.data_dir d ]) (found plan.components i c accepted.named there)
 
-  told_first : (told : Told) → IsUntouched (port_of once plan.global.data_dir c) told → IsTold told h i
-  told_first told u =
+  observed_first : (observed : Observation) → IsUntouched (port_of once plan.global.data_dir c) observed → IsObserved observed h i
+  observed_first observed u =
       let device : Bool = device_at h i in
-      let over : device ≡ true → all_ended h i ≡ true → NothingLeft told = λ on e. cc in
-      let spec : Fits (spec_of h i) told.spec = subst (λ (o : Option PortSpec). Fits o told.spec) (sym spec_first) u.made_for in
-      let taken : (stream : ℕ) → IfSome (told.taken stream) (λ bytes. bytes ≡ (if device then [] else [])) =
-      λ stream. IfSome_then (told.taken stream) (u.taken stream) (λ bytes is. is ∙ sym (either device [])) in
-      let finishes : HasCounted told.exact (if device then 0 else 0) told.finishes = rw (either {X = ℕ} device 0) u.finishes in
+      let over : device ≡ true → all_ended h i ≡ true → NothingLeft observed = λ on e. cc in
+      let spec : Fits (spec_of h i) observed.spec = subst (λ (o : Option PortSpec). Fits o observed.spec) (sym spec_first) u.made_for in
+      let taken : (stream : ℕ) → IfSome (observed.taken stream) (λ bytes. bytes ≡ (if device then [] else [])) =
+      λ stream. IfSome_then (observed.taken stream) (u.taken stream) (λ bytes is. is ∙ sym (either device [])) in
+      let finishes : HasCounted observed.exact (if device then 0 else 0) observed.finishes = rw (either {X = ℕ} device 0) u.finishes in
       assumption (over, spec, taken, finishes, u)
 
   -- whether it works with a port is what its settings say, and so is how many lines it makes at once
@@ -281,36 +281,36 @@ module _ {plan : Plan} (accepted : IsPlan plan) (i : ℕ) {c : Component}
   come_first Merge is = ap (λ (o : Option Component). elim o as (λ _. Bool) [ None ↦ false | Some d ↦ merges d ]) runs ∙ is
   come_first Unfit is = absurd is
 
-module _ {P : Type 0} {told_by : P → Told} {plan : Plan} (accepted : IsPlan plan) (once : Bool) where
-  -- a seat that has its role and its port
-  fresh_seat : (i : ℕ) (c : Component) (was : Seat P) (role : Role) (port : P) →
-      slice_get plan.components i ≡ Some c → IsBegun plan was c → IsRoleFor role c → IsUntouched (port_of once plan.global.data_dir c) (told_by port) →
-      IsFresh told_by plan once i (record was { task = Some (record { port = port; role = role }) }) c
-  fresh_seat i c was role port there begins is untouched =
-      let home : (now : ℕ) → IsAtHome told_by (begun plan once now) i (record { port = port; role = role }) = λ now.
-      record { told = told_first accepted i there once now (told_by port) untouched; come = come_first accepted i there once now role is } in
-      assumption (home, fit_role role c is, bare_role role c is, begins.counts i, begins)
+module _ {P : Type 0} {observe : P → Observation} {plan : Plan} (accepted : IsPlan plan) (once : Bool) where
+  -- a state that has its role and its port
+  fresh_state : (i : ℕ) (c : Component) (was : InstanceState P) (role : Role) (port : P) →
+      slice_get plan.components i ≡ Some c → IsBegun plan was c → IsRoleFor role c → IsUntouched (port_of once plan.global.data_dir c) (observe port) →
+      IsFresh observe plan once i (record was { task = Some (record { port = port; role = role }) }) c
+  fresh_state i c was role port there begins is untouched =
+      let unleased : (now : ℕ) → IsTaskOf observe (begun plan once now) i (record { port = port; role = role }) = λ now.
+      record { observed = observed_first accepted i there once now (observe port) untouched; come = come_first accepted i there once now role is } in
+      assumption (unleased, fit_role role c is, bare_role role c is, begins.counts i, begins)
 
-  pub all_fresh : (seats : List (Seat P)) (roles : List Role) (ports : List (Named P)) (seated : List (Seat P)) →
-      AreFor (IsBegun plan) plan.components seats → AreFor IsRoleFor plan.components roles →
-      AreUntouched told_by (port_of once plan.global.data_dir) plan.components ports → length seated ≡ length plan.components →
-      AreSeatedFrom 0 seats roles ports seated → AreFresh told_by plan once seated
-  all_fresh seats roles ports seated begins fit untouched size each = record {
+  pub all_fresh : (states : List (InstanceState P)) (roles : List Role) (ports : List (Named P)) (tasked : List (InstanceState P)) →
+      AreFor (IsBegun plan) plan.components states → AreFor IsRoleFor plan.components roles →
+      AreUntouched observe (port_of once plan.global.data_dir) plan.components ports → length tasked ≡ length plan.components →
+      AreTaskedFrom 0 states roles ports tasked → AreFresh observe plan once tasked
+  all_fresh states roles ports tasked begins fit untouched size each = record {
     size = size;
-    each = λ i. IfSome_then (slice_get seated i) (each i (omega arith)) (λ seat is.
-        with_some (slice_get seats i) is (λ was was_there has.
+    each = λ i. IfSome_then (slice_get tasked i) (each i (omega arith)) (λ state is.
+        with_some (slice_get states i) is (λ was was_there has.
         with_some (slice_get roles i) has (λ role role_there holds.
         with_some (slice_get ports i) holds (λ named named_there made.
         let begun_by : IsSomeAnd (slice_get plan.components i) (IsBegun plan was) = rw was_there at (begins i) in
         with_some (slice_get plan.components i) begun_by (λ c there begin.
         let fits : IsRoleFor role c = rw (role_there, there) at (fit i) in
-        let bare : IsUntouched (port_of once plan.global.data_dir c) (told_by named.port) = rw (named_there, there) at (untouched_at told_by (port_of once plan.global.data_dir) plan.components ports untouched i) in
-        rw (there, made) (fresh_seat i c was role named.port there begin fits bare))))));
+        let bare : IsUntouched (port_of once plan.global.data_dir c) (observe named.port) = rw (named_there, there) at (untouched_at observe (port_of once plan.global.data_dir) plan.components ports untouched i) in
+        rw (there, made) (fresh_state i c was role named.port there begin fits bare))))));
   }
 
 -- PLACES
 module _ {plan : Plan} (accepted : IsPlan plan) (once : Bool) (now : ℕ) (rows : List Row) (holds : Holds rows [])
-    (rooms : HaveRooms plan.components rows) (size : length rows ≡ length plan.components) where
+    (capacities : HaveCapacities plan.components rows) (size : length rows ≡ length plan.components) where
   in_place : (i : ℕ) → component_of (begun plan once now) i ≡ slice_get plan.components i
   in_place i = component_in_place (begun plan once now) plan i (begun_legal plan once now accepted) refl
 
@@ -320,22 +320,22 @@ module _ {plan : Plan} (accepted : IsPlan plan) (once : Bool) (now : ℕ) (rows 
       (λ event copy among. absurd among) holds
 
   planned_first : (i : ℕ) (o : Option Component) → slice_get plan.components i ≡ o →
-      (planned_rooms (begun plan once now) i ≡ map (λ (stage : Stage). stage.max_events) (elim o [ None ↦ [] | Some c ↦ stages c ]))
-      × (told 0 hand_of (begun plan once now) i ≡ (elim o [ None ↦ 0 | Some c ↦ hand_of c ]))
+      (planned_capacities (begun plan once now) i ≡ map (λ (stage : Stage). stage.max_events) (elim o [ None ↦ [] | Some c ↦ stages c ]))
+      × (component_or 0 held_limit_of (begun plan once now) i ≡ (elim o [ None ↦ 0 | Some c ↦ held_limit_of c ]))
   planned_first i o is = (
     ap (λ (x : Option Component). map (λ (stage : Stage). stage.max_events) (elim x [ None ↦ [] | Some c ↦ stages c ])) (in_place i ∙ is),
-    ap (λ (x : Option Component). elim x [ None ↦ 0 | Some c ↦ hand_of c ]) (in_place i ∙ is),
+    ap (λ (x : Option Component). elim x [ None ↦ 0 | Some c ↦ held_limit_of c ]) (in_place i ∙ is),
   )
 
-  room_first : (i : ℕ) → (rooms_at rows i ≡ planned_rooms (begun plan once now) i) ×
-      IfSome (held_room rows i) (IsHandOf (begun plan once now) i)
+  room_first : (i : ℕ) → (capacities_at rows i ≡ planned_capacities (begun plan once now) i) ×
+      IfSome (held_capacity rows i) (IsHeldLimitOf (begun plan once now) i)
   room_first i = elim (cases_lt i (length rows)) [
-    | inl l ↦ with_some (slice_get plan.components i) (rooms i l) (λ c there has.
+    | inl l ↦ with_some (slice_get plan.components i) (capacities i l) (λ c there has.
         let planned = planned_first i (Some c) there in
-        (has.stages ∙ sym planned.0, IfSome_then (held_room rows i) (hand_says (merges c) (hand_of c) (held_room rows i) has.hand) (λ n is. is ∙ sym planned.1)))
+        (has.stages ∙ sym planned.0, IfSome_then (held_capacity rows i) (hand_says (merges c) (held_limit_of c) (held_capacity rows i) has.held_limit) (λ n is. is ∙ sym planned.1)))
     | inr past ↦
         let gone = slice_get_past rows i past in
-        (ap rooms_if gone ∙ sym (planned_first i None (slice_get_past plan.components i (omega (arith, past, size)))).0, rw gone tt)
+        (ap capacities_if gone ∙ sym (planned_first i None (slice_get_past plan.components i (omega (arith, past, size)))).0, rw gone tt)
   ]
 
   -- what an instance holds is seen exactly where it doesn't merge
@@ -344,17 +344,17 @@ module _ {plan : Plan} (accepted : IsPlan plan) (once : Bool) (now : ℕ) (rows 
 
   seen_first : (i : ℕ) → joins_at (begun plan once now) i ≡ false → IsSome (parcels_here rows (Held i))
   seen_first i alone = elim (cases_lt i (length rows)) [
-    | inl l ↦ with_some (slice_get plan.components i) (rooms i l) (λ c there has.
+    | inl l ↦ with_some (slice_get plan.components i) (capacities i l) (λ c there has.
         let not_merging : merges c ≡ false = sym (joins_first i ∙ ap (λ (o : Option Component). elim o as (λ _. Bool) [ None ↦ false | Some d ↦ merges d ]) there) ∙ alone in
-        hand_seen i (hand_of c) (row_at rows i) (alone_room (merges c) (hand_of c) (held_room rows i) has.hand not_merging))
+        hand_seen i (held_limit_of c) (row_at rows i) (alone_room (merges c) (held_limit_of c) (held_capacity rows i) has.held_limit not_merging))
     | inr past ↦ rw (slice_get_past rows i past) refl
   ]
 
   apart_first : (i : ℕ) → joins_at (begun plan once now) i ≡ true → parcels_here rows (Held i) ≡ None
   apart_first i joins = elim (cases_lt i (length rows)) [
-    | inl l ↦ with_some (slice_get plan.components i) (rooms i l) (λ c there has.
+    | inl l ↦ with_some (slice_get plan.components i) (capacities i l) (λ c there has.
         let merging : merges c ≡ true = sym (joins_first i ∙ ap (λ (o : Option Component). elim o as (λ _. Bool) [ None ↦ false | Some d ↦ merges d ]) there) ∙ joins in
-        room_lent rows i l (joined_room (merges c) (hand_of c) (held_room rows i) has.hand merging))
+        capacity_lent rows i l (joined_room (merges c) (held_limit_of c) (held_capacity rows i) has.held_limit merging))
     | inr past ↦
         let none = ap (λ (o : Option Component). elim o as (λ _. Bool) [ None ↦ false | Some d ↦ merges d ]) (slice_get_past plan.components i (omega (arith, past, size))) in
         let no : false ≡ true = sym (joins_first i ∙ none) ∙ joins in cc
@@ -372,57 +372,57 @@ judging_first plan once now accepted served i = let h = begun plan once now in j
     (rw (component_in_place h plan i (begun_legal plan once now accepted) refl) (if_there (slice_get plan.components i) (λ c there. served_at plan.components i c served there)))
 
 -- ALL OF IT
-module _ {P : Type 0} {told_by : P → Told} {plan : Plan} {once : Bool} {now : ℕ} {room : Room P}
-    {seats : List (Seat P)} (accepted : IsPlan plan) (few : length plan.components < 2 ^ 32)
-    (served : all_served plan.components ≡ true) (made : HasRoomFor plan room) (keepers : Vec (Option Kept)) (slots : AreSlots plan.components keepers.items) (fresh : AreFresh told_by plan once seats)
-    (knows : Knows told_by seats (begun plan once now)) where
-  abbrev books_first : Record → Books P
-  books_first log = record {
+module _ {P : Type 0} {observe : P → Observation} {plan : Plan} {once : Bool} {now : ℕ} {room : Allocated P}
+    {states : List (InstanceState P)} (accepted : IsPlan plan) (few : length plan.components < 2 ^ 32)
+    (served : all_served plan.components ≡ true) (made : IsAllocatedFor plan room) (keepers : Vec (Option Kept)) (slots : AreSlots plan.components keepers.items) (fresh : AreFresh observe plan once states)
+    (knows : Knows observe states (begun plan once now)) where
+  abbrev engine_first : Record → EngineState P
+  engine_first log = record {
     places = room.places;
     keepers = keepers;
-    seats = seats;
+    states = states;
     balance = room.balance;
-    run = record { plan = plan; abandoned = None; latest = now; short = false };
+    run = record { plan = plan; abandoned = None; latest = now; out_of_memory = false };
     log = log;
   }
 
-  seat_new : {F : Seat P → Type 0} → ((seat : Seat P) → AreNew seat.facts → F seat) → (i : ℕ) → IfSome (slice_get seats i) F
-  seat_new says i = IfSome_then (slice_get seats i) (fresh.each i) (λ seat is. with_some (slice_get plan.components i) is (λ c there new. says seat new.facts))
+  state_new : {F : InstanceState P → Type 0} → ((state : InstanceState P) → AreNew state.facts → F state) → (i : ℕ) → IfSome (slice_get states i) F
+  state_new says i = IfSome_then (slice_get states i) (fresh.each i) (λ state is. with_some (slice_get plan.components i) is (λ c there new. says state new.facts))
 
-  stands_first : Stands told_by (books_first (begun plan once now))
+  stands_first : Stands observe (engine_first (begun plan once now))
   stands_first = record {
     legal = begun_legal plan once now accepted;
-    places = holds_first accepted once now room.places made.holds made.rooms made.places_size;
-    seats = knows;
+    places = holds_first accepted once now room.places made.holds made.capacities made.places_size;
+    states = knows;
     balance = aside_kept room.balance [] (Install 0 plan once (first_instances 0 plan.components) now) tt made.balance;
     run = record { installed = refl; cause = refl; later = λ worker. omega arith; judging = judging_first plan once now accepted served; returned = λ fed. tt };
     size = made.places_size ∙ sym fresh.size;
-    kept = λ i home alone. seen_first accepted once now room.places made.holds made.rooms made.places_size i alone;
-    rooms = let each = room_first accepted once now room.places made.holds made.rooms made.places_size in
-        record { stages = λ i. (each i).0; hands = λ i. (each i).1 };
+    kept = λ i unleased alone. seen_first accepted once now room.places made.holds made.capacities made.places_size i alone;
+    capacities = let each = room_first accepted once now room.places made.holds made.capacities made.places_size in
+        record { stages = λ i. (each i).0; holdings = λ i. (each i).1 };
     begun = begun_stays (joins_at (begun plan once now)) (Install 0 plan once (first_instances 0 plan.components) now) [] (begun_legal plan once now accepted) tt (begun_first (joins_at (begun plan once now)));
     keepers = record {
       many = slots_size plan.components keepers.items slots ∙ sym made.places_size;
       whose = λ i. whose_if (slice_get plan.components i) (keeper_at keepers.items i) (slots_at plan.components keepers.items slots i)
-          ∙ sym (joins_first accepted once now room.places made.holds made.rooms made.places_size i);
-      apart = apart_first accepted once now room.places made.holds made.rooms made.places_size;
+          ∙ sym (joins_first accepted once now room.places made.holds made.capacities made.places_size i);
+      apart = apart_first accepted once now room.places made.holds made.capacities made.places_size;
     };
     keeps = λ i. kept_if (begun plan once now) i (slice_get plan.components i) (keeper_at keepers.items i)
-        (in_place accepted once now room.places made.holds made.rooms made.places_size i) (slots_at plan.components keepers.items slots i) refl refl refl;
+        (in_place accepted once now room.places made.holds made.capacities made.places_size i) (slots_at plan.components keepers.items slots i) refl refl refl;
   }
 
-  pub hub_first : (hub : Hub P) {log : Record} → log ≡ begun plan once now → hub.books ≡ books_first log →
-      length seats ≤ vec_capacity hub.ports → hub.ports.items ≡ [] → AreSources plan.components (length seats) hub.sources.items →
-      AreMergers plan.components (length seats) hub.mergers.items → IsHub told_by hub
-  hub_first hub first is berths none sources mergers = record {
+  pub hub_first : (hub : Hub P) {log : Record} → log ≡ begun plan once now → hub.engine ≡ engine_first log →
+      length states ≤ vec_capacity hub.ports → hub.ports.items ≡ [] → AreSources plan.components (length states) hub.sources.items →
+      AreMergers plan.components (length states) hub.mergers.items → IsHub observe hub
+  hub_first hub first is port_slots none sources mergers = record {
     stands = rw (is, first) stands_first;
     served = rw (is, first) (record { served = served; few = let same = fresh.size in omega (arith, same, few) });
     lent = rw (is, first) (λ i l out. cc);
     well = λ sound. rw (is, first)
-        (record { seats = seat_new (λ seat new. record { settled = new.owing; counted = new.behind; fed = new.starved }); fed = refl });
-    fed = rw is (λ sound. seat_new (λ seat new. record { counted = new.behind; fed = new.starved }));
+        (record { states = state_new (λ state new. record { settled = new.owing; counted = new.behind; fed = new.starved }); fed = refl });
+    fed = rw is (λ sound. state_new (λ state new. record { counted = new.behind; fed = new.starved }));
     away = rw (is, first) (λ i out. cc);
-    berths = rw is berths;
+    port_slots = rw is port_slots;
     none = none;
     sources = rw is sources;
     mergers = rw is mergers;

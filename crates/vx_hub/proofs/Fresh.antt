@@ -19,7 +19,7 @@ use Rattle.vx_record.proofs.Attempted.{attempts_sink, attempted_held}
 use Rattle.vx_record.proofs.Counts.{count-append}
 use Rattle.vx_record.proofs.Promises.{failed_counts}
 use Rattle.vx_record.proofs.Shifting.{stands_at}
-use Rattle.vx_seats.proofs.Holding.{held_none_empty, oldest_among}
+use Rattle.vx_instances.proofs.Holding.{held_none_empty, oldest_among}
 use Rattle.vx_ready.proofs.Closed.{not_empty}
 
 -- what was never attempted needn't wait

@@ -12,14 +12,14 @@ use Rattle.vx_record.specs.Installs.{component_of}
 use Rattle.vx_record.specs.Places.{Place}
 use Rattle.vx_record.specs.Places.Place.{Held}
 use Rattle.vx_record.specs.Shifts.{at}
-use Rattle.vx_places.specs.Rooms.{line_room, held_room_if}
+use Rattle.vx_places.specs.Capacities.{line_capacity, held_capacity_if}
 use Rattle.vx_places.specs.Holding.{Holds}
 use Rattle.vx_places.specs.Numbers.{numbers}
 use Rattle.vx_places.specs.Views.{held_items, here_if, parcels_here}
 use Rattle.vx_places.specs.declared.row.Row.{Row}
 use Rattle.vx_keeping.specs.Kept.{Kept, copies_kept}
 use Rattle.vx_moves.specs.Keepers.{keeper_at, IsKept}
-use Rattle.vx_hub.specs.Beginning.{AddsPlace, HaveRooms}
+use Rattle.vx_hub.specs.Beginning.{AddsPlace, HaveCapacities}
 use Rattle.vx_hub.specs.Making.{IsSlotFor, AreSlots, AreBare}
 use Rattle.vx_hub.specs.Standing.{merges}
 use Rattle.vx_hub.proofs.Resting.{some_then}
@@ -72,11 +72,11 @@ hand_says true n o is = rw is tt
 hand_says false n o is = rw is refl
 
 -- where there is some, what it holds is seen
-pub hand_seen : (i n : ℕ) (o : Option Row) → held_room_if o ≡ Some n → IsSome (here_if (Held i) o)
+pub hand_seen : (i n : ℕ) (o : Option Row) → held_capacity_if o ≡ Some n → IsSome (here_if (Held i) o)
 hand_seen i n None is = cc
 hand_seen i n (Some row) is = go row.held is
   where
-    go : (line : Option (Filled Parcel)) → line_room line ≡ Some n → IsSome (held_items line)
+    go : (line : Option (Filled Parcel)) → line_capacity line ≡ Some n → IsSome (held_items line)
     go None is = cc
     go (Some line) is = refl
 
@@ -98,10 +98,10 @@ pub ended_first : (rows : List Row) → Holds rows [] → (p : Place) → IfSome
 ended_first rows holds p = IfSome_then (parcels_here rows p) (holds.stand p) (λ parcels same. none_numbers parcels same)
 
 -- there is a place more
-pub rooms_more : (components : List Component) (old new : List Row) (c : Component) → AddsPlace c old new → length new ≡ length old + 1 → slice_get components (length old) ≡ Some c →
-    HaveRooms components old → HaveRooms components new
-rooms_more components old new c adds size there all i l = elim (cases_eq i (length old)) [
+pub capacities_more : (components : List Component) (old new : List Row) (c : Component) → AddsPlace c old new → length new ≡ length old + 1 → slice_get components (length old) ≡ Some c →
+    HaveCapacities components old → HaveCapacities components new
+capacities_more components old new c adds size there all i l = elim (cases_eq i (length old)) [
   | inl same ↦ rw (same, there) adds.one
   | inr other ↦ let less : i < length old = omega (arith, l, size, other) in some_then (slice_get components i) (all i less) (λ d has.
-      let both = adds.others i less in record { stages = both.0 ∙ has.stages; hand = both.1 ∙ has.hand })
+      let both = adds.others i less in record { stages = both.0 ∙ has.stages; held_limit = both.1 ∙ has.held_limit })
 ]

@@ -5,7 +5,7 @@ use Rattle.std.proofs.lemmas.Bool.{and_parts, cases_Bool, cases_eq, false_from_n
 use Rattle.std.proofs.lemmas.List.{append-nil}
 use Rattle.vx_value.specs.Filled.{Filled}
 use Rattle.vx_value.specs.Texts.{is_empty}
-use Rattle.vx_ends.specs.Told.{Told}
+use Rattle.vx_ends.specs.Observation.{Observation}
 use Rattle.vx_ends.specs.declared.position.Position.{Position}
 use Rattle.vx_ledger.specs.declared.parcel.Parcel.{Parcel}
 use Rattle.vx_record.specs.declared.entry.Entry.{Entry}
@@ -36,7 +36,7 @@ use Rattle.vx_record.proofs.SourceEnds.{source_done}
 use Rattle.vx_counts.proofs.Once.{itself}
 use Rattle.vx_places.specs.declared.row.Row.{Row}
 use Rattle.vx_places.specs.Calls.{IsKept}
-use Rattle.vx_places.specs.Rooms.{held_room, LendsRoom}
+use Rattle.vx_places.specs.Capacities.{held_capacity, LendsCapacity}
 use Rattle.vx_places.specs.Views.{row_at, here_if, held_items, parcels_here}
 use Rattle.vx_places.proofs.Making.{held_says}
 use Rattle.vx_tasks.specs.declared.task.Role.{Role}
@@ -45,17 +45,17 @@ use Rattle.vx_tasks.specs.declared.task.Task.{Task}
 use Rattle.vx_tasks.specs.declared.work.Job.{Job}
 use Rattle.vx_tasks.specs.declared.work.Job.TheVariants as job
 use Rattle.vx_tasks.specs.Joining.{joins_at}
-use Rattle.vx_tasks.specs.Home.{HasCome, HasKept, IsAtHome}
+use Rattle.vx_tasks.specs.Unleased.{HasCome, HasKept, IsTaskOf}
 use Rattle.vx_tasks.specs.Out.{IsIdle, IsHeld, MayAttemptNow, MayCloseNow, AreDue, is_unfit}
-use Rattle.vx_seats.specs.declared.seat.Seat.{Seat}
-use Rattle.vx_seats.specs.Knowing.{HasHome, IsAtHomeBut, IsKnown}
-use Rattle.vx_seats.specs.Staying.{IsLeft}
-use Rattle.vx_seats.proofs.Telling.{told_mute, come_mute}
-use Rattle.vx_moves.specs.declared.books.Books.{Books}
+use Rattle.vx_instances.specs.declared.state.InstanceState.{InstanceState}
+use Rattle.vx_instances.specs.Knowing.{HasUnleasedTask, IsTaskOfBut, IsKnown}
+use Rattle.vx_instances.specs.Staying.{IsLeft}
+use Rattle.vx_instances.proofs.Observing.{observed_mute, come_mute}
+use Rattle.vx_moves.specs.declared.engine.EngineState.{EngineState}
 use Rattle.vx_moves.specs.declared.run.Run.{Run}
 use Rattle.vx_moves.specs.Leasing.{HasLent}
 use Rattle.vx_moves.specs.Leaving.{Leaves}
-use Rattle.vx_moves.specs.Rooms.{IsHandOf}
+use Rattle.vx_moves.specs.Capacities.{IsHeldLimitOf}
 use Rattle.vx_moves.specs.Stands.{Stands, Steps}
 use Rattle.vx_moves.specs.Taking.{MayTakeNow}
 use Rattle.vx_moves.proofs.Keepers.{seen_alone}
@@ -65,76 +65,76 @@ use Rattle.vx_ready.specs.Asking.{IsServed, IsSettled, IsOpen}
 use Rattle.vx_ready.specs.Jobs.{IsJob}
 use Rattle.vx_ready.proofs.Closed.{closed_filled}
 use Rattle.vx_ready.proofs.Emptied.{holds_none}
-use Rattle.vx_ready.proofs.Knowing.{known, owes_none, seat_there}
-use Rattle.vx_landing.proofs.Lending.{lent_room, room_lent}
-use Rattle.vx_landing.proofs.Seating.{not_same, well_stays}
+use Rattle.vx_ready.proofs.Knowing.{known, owes_none, state_there}
+use Rattle.vx_landing.proofs.Lending.{lent_capacity, capacity_lent}
+use Rattle.vx_landing.proofs.States.{not_same, well_stays}
 use Rattle.vx_hub.specs.Collecting.{IsOut, IsCollecting, IsGathering, IsTakeOf, HasTaken}
 use Rattle.vx_hub.specs.Leases.{MayGather, IsReadyFor, NoneFoundAt, NoneReady, HasGathered, HasHandedOut}
 use Rattle.vx_hub.specs.Standing.{IsWell, IsWellAt, LentWhileOut}
 use Rattle.vx_hub.proofs.Tasks.{keeps_task}
 use Rattle.vx_hub.proofs.Fresh.{due_waited, leased_waited, taken_waited, taking_waited}
-use Rattle.vx_hub.proofs.Endings.{home_is, retired_closed, settled_there}
+use Rattle.vx_hub.proofs.Endings.{unleased_is, retired_closed, settled_there}
 use Rattle.vx_hub.proofs.Judging.{buffer_leased, owes_neither, discards_leased}
 use Rattle.vx_hub.proofs.Resting.{adds_step, leaves_both}
 use Rattle.vx_hub.proofs.Served.{done_unready}
 
 -- WHERE NONE HAS WORK
-module _ {P : Type 0} {told_by : P → Told} {books : Books P} (stands : Stands told_by books)
-    (well : IsWell books) (kept : books.run.abandoned ≡ None)
-    (now : ℕ) (latest : books.run.latest ≤ now) (i : ℕ) (within : i < length books.seats) (home : is_out books.log i ≡ false) where
-  going : abandoned books.log ≡ false
-  going = unabandoned books.log (sym stands.run.cause ∙ kept)
+module _ {P : Type 0} {observe : P → Observation} {engine : EngineState P} (stands : Stands observe engine)
+    (well : IsWell engine) (kept : engine.run.abandoned ≡ None)
+    (now : ℕ) (latest : engine.run.latest ≤ now) (i : ℕ) (within : i < length engine.states) (unleased : is_out engine.log i ≡ false) where
+  going : abandoned engine.log ≡ false
+  going = unabandoned engine.log (sym stands.run.cause ∙ kept)
 
-  module _ (seat : Seat P) (there : slice_get books.seats i ≡ Some seat) where
+  module _ (state : InstanceState P) (there : slice_get engine.states i ≡ Some state) where
     -- what is closed isn't leased, so it isn't ready
-    closed_unready : is_closed books.log i ≡ true → is_retired books.log i ≡ false → is_ready books.log i now ≡ false
-    closed_unready closed unretired = false_from_ne_true (is_ready books.log i now) (λ ready.
+    closed_unready : is_closed engine.log i ≡ true → is_retired engine.log i ≡ false → is_ready engine.log i now ≡ false
+    closed_unready closed unretired = false_from_ne_true (is_ready engine.log i now) (λ ready.
         let later = stands.run.later 0 in
         let still = going in
-        let may : MayLease books.log i 0 now 0 = record {
-          home = home;
+        let may : MayLease engine.log i 0 now 0 = record {
+          unleased = unleased;
           unretired = unretired;
-          settled = owes_none told_by books stands i seat there (settled_there stands i there ((home_is stands i there).1 home) well kept);
+          settled = owes_none observe engine stands i state there (settled_there stands i there ((unleased_is stands i there).1 unleased) well kept);
           ready = inl ready;
           later = omega (arith, later, latest);
           unpolled = refl;
         } in
-        let follow = follows (Lease i 0 now 0) books.balance books.log stands.balance may (λ given. cc) in
-        let unclosed = leased_unclosed books.log i 0 now 0 (follow, stands.legal) in cc)
+        let follow = follows (Lease i 0 now 0) engine.balance engine.log stands.balance may (λ given. cc) in
+        let unclosed = leased_unclosed engine.log i 0 now 0 (follow, stands.legal) in cc)
 
     -- nor is what ended
-    retired_unready : is_retired books.log i ≡ true → (device_at books.log i ≡ true) ⊎ (device_at books.log i ≡ false) → is_ready books.log i now ≡ false
-    retired_unready retired (inl device) = unready books.log i now stands.legal (retired_final books.log i stands.legal going retired).done
-        (retired_closed books.log i stands.legal retired device)
-    retired_unready retired (inr none) = done_unready books.log i now stands.legal none (retired_final books.log i stands.legal going retired).done
+    retired_unready : is_retired engine.log i ≡ true → (device_at engine.log i ≡ true) ⊎ (device_at engine.log i ≡ false) → is_ready engine.log i now ≡ false
+    retired_unready retired (inl device) = unready engine.log i now stands.legal (retired_final engine.log i stands.legal going retired).done
+        (retired_closed engine.log i stands.legal retired device)
+    retired_unready retired (inr none) = done_unready engine.log i now stands.legal none (retired_final engine.log i stands.legal going retired).done
 
-    none_at : (IsSettled books i → IsOpen books i → is_ready books.log i now ≡ false) → is_ready books.log i now ≡ false
+    none_at : (IsSettled engine i → IsOpen engine i → is_ready engine.log i now ≡ false) → is_ready engine.log i now ≡ false
     none_at none =
-        let facts = (known told_by books stands i seat there).facts in
-        let w : IsWellAt seat = rw there at (well.seats i) in
-        elim (cases_Bool (is_retired books.log i)) [
-          | inl retired ↦ retired_unready retired (cases_Bool (device_at books.log i))
-          | inr unretired ↦ elim (cases_Bool seat.facts.closed) [
+        let facts = (known observe engine stands i state there).facts in
+        let w : IsWellAt state = rw there at (well.states i) in
+        elim (cases_Bool (is_retired engine.log i)) [
+          | inl retired ↦ retired_unready retired (cases_Bool (device_at engine.log i))
+          | inr unretired ↦ elim (cases_Bool state.facts.closed) [
             | inl closed ↦ closed_unready (sym facts.closed ∙ closed) unretired
-            | inr unclosed ↦ none (settled_there stands i there ((home_is stands i there).1 home) well kept)
+            | inr unclosed ↦ none (settled_there stands i there ((unleased_is stands i there).1 unleased) well kept)
                 (rw there (assumption (unclosed, facts.retired ∙ unretired, w)))
           ]
         ]
 
 -- so it is of one that was asked
-pub none_ready_at : {P : Type 0} {told_by : P → Told} {books : Books P} (now i : ℕ) → Stands told_by books → IsWell books → books.run.abandoned ≡ None →
-    books.run.latest ≤ now → i < length books.seats → is_out books.log i ≡ false → (IsSettled books i → IsOpen books i → is_ready books.log i now ≡ false) → is_ready books.log i now ≡ false
-none_ready_at {books = books} now i stands well kept latest within home none =
-    let seat = seat_there books.seats i within in none_at stands well kept now latest i within home seat.0 seat.1 none
+pub none_ready_at : {P : Type 0} {observe : P → Observation} {engine : EngineState P} (now i : ℕ) → Stands observe engine → IsWell engine → engine.run.abandoned ≡ None →
+    engine.run.latest ≤ now → i < length engine.states → is_out engine.log i ≡ false → (IsSettled engine i → IsOpen engine i → is_ready engine.log i now ≡ false) → is_ready engine.log i now ≡ false
+none_ready_at {engine = engine} now i stands well kept latest within unleased none =
+    let state = state_there engine.states i within in none_at stands well kept now latest i within unleased state.0 state.1 none
 
 -- each instance below a number was asked
-abbrev pub NoneBelow : {P : Type 0} → Books P → ℕ → ℕ → Type 0
-NoneBelow books now n = (i : ℕ) → i < n → NoneFoundAt books now i
+abbrev pub NoneBelow : {P : Type 0} → EngineState P → ℕ → ℕ → Type 0
+NoneBelow engine now n = (i : ℕ) → i < n → NoneFoundAt engine now i
 
-pub none_ready : {P : Type 0} {told_by : P → Told} {books : Books P} (now n : ℕ) → Stands told_by books →
-    books.run.latest ≤ now → length books.seats ≤ n → NoneBelow books now n → NoneReady books now
-none_ready {books = books} now n stands latest most below well kept i within home alone =
-    let seat = seat_there books.seats i within in none_at stands well kept now latest i within home seat.0 seat.1 (λ settled usable. below i (omega (arith, within, most)) settled usable alone)
+pub none_ready : {P : Type 0} {observe : P → Observation} {engine : EngineState P} (now n : ℕ) → Stands observe engine →
+    engine.run.latest ≤ now → length engine.states ≤ n → NoneBelow engine now n → NoneReady engine now
+none_ready {engine = engine} now n stands latest most below well kept i within unleased alone =
+    let state = state_there engine.states i within in none_at stands well kept now latest i within unleased state.0 state.1 (λ settled usable. below i (omega (arith, within, most)) settled usable alone)
 
 -- WHAT IS OWED
 -- by a lease, or a take of a sink, an instance owes nothing more
@@ -164,33 +164,33 @@ kept_at rows i within = go (parcels_here rows (Held i)) refl
     go (Some parcels) there is = (held_says rows i within).0 parcels there
 
 -- so many were taken at the most
-pub record HasCollected {P : Type 0} (told_by : P → Told) (i now taken : ℕ) (old new : Books P) : Type 0 where
-  pub stands : Stands told_by new
+pub record HasCollected {P : Type 0} (observe : P → Observation) (i now taken : ℕ) (old new : EngineState P) : Type 0 where
+  pub stands : Stands observe new
   pub served : IsServed new
   pub collecting : IsCollecting new i now taken
   pub only : OnlyAdds (IsTakeOf i) old.log new.log
   pub leaves : Leaves old new
-  pub size : length new.seats ≡ length old.seats
+  pub size : length new.states ≡ length old.states
 
 module _ {P : Type 0} where
-  pub may_take : {books : Books P} {i now taken : ℕ} → taken < 64 → IsCollecting books i now taken →
-      is_batch_closed books.log i now ≡ false → MayTakeNow books.log i
-  may_take {books} {i} below collecting unclosed = record {
-    going = unabandoned books.log collecting.is.clear.going;
+  pub may_take : {engine : EngineState P} {i now taken : ℕ} → taken < 64 → IsCollecting engine i now taken →
+      is_batch_closed engine.log i now ≡ false → MayTakeNow engine.log i
+  may_take {engine} {i} below collecting unclosed = record {
+    going = unabandoned engine.log collecting.is.clear.going;
     out = collecting.is.out;
     only_takes = collecting.is.only_takes;
     few = let most = collecting.few in omega (arith, most, below);
-    unclosed = λ sink. ap (is_batch_closed books.log i) (sym collecting.is.moment) ∙ unclosed;
-    unticked = λ transform. let plain = sink_untransforming books.log i collecting.is.clear.sink in cc;
+    unclosed = λ sink. ap (is_batch_closed engine.log i) (sym collecting.is.moment) ∙ unclosed;
+    unticked = λ transform. let plain = sink_untransforming engine.log i collecting.is.clear.sink in cc;
   }
 
-  pub served_on : {old new : Books P} → IsServed old → new.run.plan ≡ old.run.plan → length new.seats ≡ length old.seats → IsServed new
+  pub served_on : {old new : EngineState P} → IsServed old → new.run.plan ≡ old.run.plan → length new.states ≡ length old.states → IsServed new
   served_on served plan size = let few = served.few in record { served = rw plan served.served; few = omega (arith, few, size) }
 
-  module _ {told_by : P → Told} where
-    pub taken_one : {i now taken s : ℕ} {copies : List ℕ} {old new : Books P} → IsServed old →
-        i < length old.seats → IsCollecting old i now taken → Steps told_by (Take i s copies) old new →
-        Leaves old new → IsSome (parcels_here new.places (Held i)) → HasTaken told_by i now taken old new
+  module _ {observe : P → Observation} where
+    pub taken_one : {i now taken s : ℕ} {copies : List ℕ} {old new : EngineState P} → IsServed old →
+        i < length old.states → IsCollecting old i now taken → Steps observe (Take i s copies) old new →
+        Leaves old new → IsSome (parcels_here new.places (Held i)) → HasTaken observe i now taken old new
     taken_one {i} {now} {taken} {s} {copies} {old} {new} served within was steps leaves kept =
         let rows = steps.stands.size in let size = steps.size in let most = was.few in let u = was.is.clear in
         let collecting : IsCollecting new i now (taken + 1) = record {
@@ -211,12 +211,12 @@ module _ {P : Type 0} where
         } in
         assumption (collecting, served_on {new = new} served (ap (λ (r : Run). r.plan) leaves.run) steps.size, adds_step (IsTakeOf i) steps refl, leaves, steps)
 
-    pub taken_none : {i now : ℕ} {books : Books P} → Stands told_by books → IsServed books →
-        IsCollecting books i now 0 → HasCollected told_by i now 0 books books
-    taken_none {i} {books = books} stands served collecting = assumption (adds_none (IsTakeOf i) books.log books.log refl, each_stays books.seats)
+    pub taken_none : {i now : ℕ} {engine : EngineState P} → Stands observe engine → IsServed engine →
+        IsCollecting engine i now 0 → HasCollected observe i now 0 engine engine
+    taken_none {i} {engine = engine} stands served collecting = assumption (adds_none (IsTakeOf i) engine.log engine.log refl, each_stays engine.states)
 
-    pub taken_more : {i now taken : ℕ} {old mid new : Books P} → HasCollected told_by i now taken old mid →
-        HasTaken told_by i now taken mid new → HasCollected told_by i now (taken + 1) old new
+    pub taken_more : {i now taken : ℕ} {old mid new : EngineState P} → HasCollected observe i now taken old mid →
+        HasTaken observe i now taken mid new → HasCollected observe i now (taken + 1) old new
     taken_more {i} {old = old} {mid} {new} some one =
         assumption (adds_both (IsTakeOf i) old.log mid.log new.log some.only one.only, leaves_both some.leaves one.leaves, one.size ∙ some.size, one)
 
@@ -225,10 +225,10 @@ by_which : (some full timed last tried : Bool) → (some && (full || timed || la
     ((full || timed || tried) ≡ true) ⊎ (last ≡ true)
 by_which some full timed last tried e = grind arith
 
-pub may_attempt : {P : Type 0} {told_by : P → Told} {books : Books P} {i now : ℕ} → Stands told_by books →
-    IsOut books i now → is_batch_closed books.log i now ≡ true → MayAttemptNow books.log i
-may_attempt {books = books} {i} {now} stands out closed =
-    let h = books.log in
+pub may_attempt : {P : Type 0} {observe : P → Observation} {engine : EngineState P} {i now : ℕ} → Stands observe engine →
+    IsOut engine i now → is_batch_closed engine.log i now ≡ true → MayAttemptNow engine.log i
+may_attempt {engine = engine} {i} {now} stands out closed =
+    let h = engine.log in
     let at_lease : is_batch_closed h i (lease_now h i) ≡ true = ap (is_batch_closed h i) (sym out.moment) ∙ closed in
     let waited = out.waited (closed_filled h i now closed) in
     let moment = out.moment in
@@ -244,16 +244,16 @@ may_attempt {books = books} {i} {now} stands out closed =
     }
 
 -- WHAT A LEASE LEADS TO
-still_kept : (old new : List Row) (j : ℕ) → j < length old → held_room new j ≡ held_room old j →
+still_kept : (old new : List Row) (j : ℕ) → j < length old → held_capacity new j ≡ held_capacity old j →
     IsSome (parcels_here old (Held j)) → IsSome (parcels_here new (Held j))
 still_kept old new j within same some = go (parcels_here new (Held j)) refl
   where
     go : (o : Option (List Parcel)) → parcels_here new (Held j) ≡ o → IsSome o
     go (Some parcels) is = refl
-    go None is = rw (room_lent old j within (sym same ∙ lent_room new j is)) at some
+    go None is = rw (capacity_lent old j within (sym same ∙ lent_capacity new j is)) at some
 
--- the task of a seat that is taken along was at home there
-had_task : {P : Type 0} (task : Task P) (o n : Option (Seat P)) → IsSomeAnd o (λ was. IsSomeAnd n (λ is. IsLeft task was is)) → IsSomeAnd o (λ seat. seat.task ≡ Some task)
+-- the task of a state that is taken along was unleased there
+had_task : {P : Type 0} (task : Task P) (o n : Option (InstanceState P)) → IsSomeAnd o (λ was. IsSomeAnd n (λ is. IsLeft task was is)) → IsSomeAnd o (λ state. state.task ≡ Some task)
 had_task task None n left = absurd left
 had_task task (Some was) None left = absurd left
 had_task task (Some was) (Some is) left = left.had
@@ -267,19 +267,19 @@ fits h i (role_is.Transform picker) alone come fit = refl
 fits h i role_is.Merge alone come fit = let no = sym alone ∙ come in cc
 fits h i role_is.Unfit alone come fit = absurd (fit refl)
 
-come_of : {P : Type 0} (told_by : P → Told) (starved : Bool) (h : Record) (i : ℕ) (task : Task P) → IsAtHomeBut told_by starved h i task → HasCome h i task.role
-come_of told_by true h i task is = is.1
-come_of told_by false h i task is = is.come
+come_of : {P : Type 0} (observe : P → Observation) (starved : Bool) (h : Record) (i : ℕ) (task : Task P) → IsTaskOfBut observe starved h i task → HasCome h i task.role
+come_of observe true h i task is = is.1
+come_of observe false h i task is = is.come
 
--- a seat whose task left is well still, and what is leased while all is well is of use
-left_says : {P : Type 0} (told_by : P → Told) (i : ℕ) (task : Task P) (h : Record) (o n : Option (Seat P)) →
+-- a state whose task left is well still, and what is leased while all is well is of use
+left_says : {P : Type 0} (observe : P → Observation) (i : ℕ) (task : Task P) (h : Record) (o n : Option (InstanceState P)) →
     IsSomeAnd o (λ was. IsSomeAnd n (λ is. IsLeft task was is)) →
-    joins_at h i ≡ false → IfSome o IsWellAt → IfSome o (λ seat. IsKnown told_by seat h i) → IfSome n IsWellAt × (is_unfit task.role ≡ false)
-left_says told_by i task h None n left alone well known = absurd left
-left_says told_by i task h (Some was) None left alone well known = absurd left
-left_says told_by i task h (Some was) (Some is) left alone well known =
-    let home : HasHome told_by was.facts h i task = rw left.had at known.home in
-    (assumption (left.flags.owing ∙ well.settled, left.flags.behind ∙ well.counted, left.flags.starved ∙ well.fed), fits h i task.role alone (come_of told_by was.facts.starved h i task home.task_is) (home.fit well.counted))
+    joins_at h i ≡ false → IfSome o IsWellAt → IfSome o (λ state. IsKnown observe state h i) → IfSome n IsWellAt × (is_unfit task.role ≡ false)
+left_says observe i task h None n left alone well known = absurd left
+left_says observe i task h (Some was) None left alone well known = absurd left
+left_says observe i task h (Some was) (Some is) left alone well known =
+    let unleased : HasUnleasedTask observe was.facts h i task = rw left.had at known.unleased in
+    (assumption (left.flags.owing ∙ well.settled, left.flags.behind ∙ well.counted, left.flags.starved ∙ well.fed), fits h i task.role alone (come_of observe was.facts.starved h i task unleased.task_is) (unleased.fit well.counted))
 
 taken_by : (i worker : ℕ) (h : Record) (e : Entry) → Follows h e → IsTakeOf i h e → out_to h i ≡ Some worker →
     IsBy worker h e × (out_to (e ∷ h) i ≡ Some worker)
@@ -290,21 +290,21 @@ due_on : (o : Option (List Position)) (h : Record) (i j s : ℕ) (copies : List 
 due_on None h i j s copies due = due
 due_on (Some ps) h i j s copies due = due
 
-module _ {P : Type 0} {told_by : P → Told} {i worker now : ℕ} {task : Task P} {positions : Option (List Position)}
-    {old mid : Books P} (lent : HasLent told_by i worker now task positions old mid) where
+module _ {P : Type 0} {observe : P → Observation} {i worker now : ℕ} {task : Task P} {positions : Option (List Position)}
+    {old mid : EngineState P} (lent : HasLent observe i worker now task positions old mid) where
   -- what leaves, from the lease on
   record Gone (h : Record) : Type 0 where
     out : out_to h i ≡ Some worker
     idle : IsIdle h i
-    home : IsAtHome told_by h i task
+    unleased : IsTaskOf observe h i task
     kept : HasKept h i task.role
     due : AreDue h i positions
     aside : (j : ℕ) → is_out h j ≡ is_out mid.log j
 
   gone_on : (h : Record) (e : Entry) → Follows h e → IsTakeOf i h e → Gone h → Gone (e ∷ h)
   gone_on h (Take j s copies) follows kind gone = assumption (
-    told_mute (told_by task.port) h (Take j s copies) i tt gone.home.told,
-    come_mute task.role h (Take j s copies) i tt gone.home.come,
+    observed_mute (observe task.port) h (Take j s copies) i tt gone.unleased.observed,
+    come_mute task.role h (Take j s copies) i tt gone.unleased.come,
     due_on positions h i j s copies gone.due,
     gone,
   )
@@ -319,7 +319,7 @@ module _ {P : Type 0} {told_by : P → Told} {i worker now : ℕ} {task : Task P
       no_confirm = rw (itself i);
       unclosed = leased_unclosed old.log i worker now 0 (rw lent.steps.noted at lent.steps.stands.legal);
     });
-    home = lent.home;
+    unleased = lent.unleased;
     kept = lent.kept;
     due = lent.due;
     aside = λ j. refl;
@@ -406,20 +406,20 @@ module _ {P : Type 0} {told_by : P → Told} {i worker now : ℕ} {task : Task P
   gathers job.Judge kept settled going (inr (inr is)) = absurd is.1
 
   -- what the lease of what is ready leads to
-  pub leased_gathers : {work : Job} → Stands told_by old → old.run.latest ≤ now → IsReadyFor old now i work →
+  pub leased_gathers : {work : Job} → Stands observe old → old.run.latest ≤ now → IsReadyFor old now i work →
       IsSome (parcels_here mid.places (Held i)) × MayGather mid i now work
   leased_gathers {work} stands latest ready =
       let later = stands.run.later worker in
       let may = ready.leasable.may worker (omega (arith, later, latest)) in
       let rows = stands.size in let size = lent.steps.size in let now_rows = lent.steps.stands.size in let within = ready.within in
-      let kept = still_kept old.places mid.places i (omega (arith, rows, within)) (lent.rooms i).1 (stands.kept i may.home ready.alone) in (
+      let kept = still_kept old.places mid.places i (omega (arith, rows, within)) (lent.capacities i).1 (stands.kept i may.unleased ready.alone) in (
         kept,
         gathers work (kept_at mid.places i (omega (arith, now_rows, size, within)) kept) may.settled
             (sym stands.run.cause ∙ ready.settled.going) ready.works,
       )
 
   -- it owes neither a spend of what it discarded nor an answer
-  pub leased_settled : {work : Job} → Stands told_by old → old.run.latest ≤ now → IsReadyFor old now i work →
+  pub leased_settled : {work : Job} → Stands observe old → old.run.latest ≤ now → IsReadyFor old now i work →
       (owes_discards mid.log i ≡ false) × (owes_answer mid.log i ≡ false)
   leased_settled {work} stands latest ready =
       let later = stands.run.later worker in
@@ -427,18 +427,18 @@ module _ {P : Type 0} {told_by : P → Told} {i worker now : ℕ} {task : Task P
       (rw lent.steps.noted (discards_leased old.log i worker now owes.0), rw lent.steps.noted owes.1)
 
   -- WHAT IS HANDED OUT
-  module _ {two new : Books P} {done : Job} (line : Filled Parcel) (stood : Stands told_by old) (alone : joins_at old.log i ≡ false) (well : IsWell old)
-      (was : LentWhileOut old) (gathered : HasGathered told_by i mid two done)
-      (stands : Stands told_by new) (none : parcels_here new.places (Held i) ≡ None) (rooms : LendsRoom i line.room two.places new.places)
-      (log : new.log ≡ two.log) (seats : new.seats ≡ two.seats) (run : new.run ≡ two.run) where
+  module _ {two new : EngineState P} {done : Job} (line : Filled Parcel) (stood : Stands observe old) (alone : joins_at old.log i ≡ false) (well : IsWell old)
+      (was : LentWhileOut old) (gathered : HasGathered observe i mid two done)
+      (stands : Stands observe new) (none : parcels_here new.places (Held i) ≡ None) (capacities : LendsCapacity i line.room two.places new.places)
+      (log : new.log ≡ two.log) (states : new.states ≡ two.states) (run : new.run ≡ two.run) where
     gone : Gone two.log
     gone = gone_all two.log gathered.only
 
-    left : IfSome (slice_get mid.seats i) IsWellAt × (is_unfit task.role ≡ false)
-    left = left_says told_by i task old.log (slice_get old.seats i) (slice_get mid.seats i) lent.seats.one alone (well.seats i) (stood.seats.each i)
+    left : IfSome (slice_get mid.states i) IsWellAt × (is_unfit task.role ≡ false)
+    left = left_says observe i task old.log (slice_get old.states i) (slice_get mid.states i) lent.states.one alone (well.states i) (stood.states.each i)
 
-    size : length new.seats ≡ length old.seats
-    size = ap length seats ∙ (gathered.size ∙ lent.steps.size)
+    size : length new.states ≡ length old.states
+    size = ap length states ∙ (gathered.size ∙ lent.steps.size)
 
     out_old : (j : ℕ) → j ≢ i → is_out new.log j ≡ true → is_out old.log j ≡ true
     out_old j other out =
@@ -450,29 +450,29 @@ module _ {P : Type 0} {told_by : P → Told} {i worker now : ℕ} {task : Task P
       | inl same ↦ rw same none
       | inr other ↦
           let all = size in let rows = stands.size in
-          room_lent new.places j (omega (arith, within, rows))
-          (rooms.others j other ∙ ((gathered.leaves.rooms j).1 ∙
-          ((lent.rooms j).1 ∙ lent_room old.places j (was j (omega (arith, within, all)) (out_old j other out)))))
+          capacity_lent new.places j (omega (arith, within, rows))
+          (capacities.others j other ∙ ((gathered.leaves.capacities j).1 ∙
+          ((lent.capacities j).1 ∙ lent_capacity old.places j (was j (omega (arith, within, all)) (out_old j other out)))))
     ]
 
     wells : IsWell new
     wells = record {
-      seats = λ j. rw seats (well_stays (slice_get mid.seats j) (slice_get two.seats j) (gathered.leaves.seats j) (elim (cases_eq j i) [
+      states = λ j. rw states (well_stays (slice_get mid.states j) (slice_get two.states j) (gathered.leaves.states j) (elim (cases_eq j i) [
         | inl same ↦ rw same left.0
-        | inr other ↦ rw (lent.seats.others j other) (well.seats j)
+        | inr other ↦ rw (lent.states.others j other) (well.states j)
       ]));
-      fed = ap (λ (r : Run). r.short) (run ∙ (gathered.leaves.run ∙ lent.run)) ∙ well.fed;
+      fed = ap (λ (r : Run). r.out_of_memory) (run ∙ (gathered.leaves.run ∙ lent.run)) ∙ well.fed;
     }
 
     made : OnlyAdds (IsBy worker) old.log two.log
     made = adds_both (IsBy worker) old.log mid.log two.log (adds_step (IsBy worker) lent.steps refl)
         (adds_narrower (IsTakeOf i) (IsBy worker) (λ h. out_to h i ≡ Some worker) (taken_by i worker) mid.log two.log gathered.only gone_leased.out)
 
-    pub handed : IsHeld two.log i line.items → IsHandOf two.log i line.room →
-        HasHandedOut told_by i worker now old new (record { instance = i; worker = worker; task = task; held = line; positions = positions; job = done })
+    pub handed : IsHeld two.log i line.items → IsHeldLimitOf two.log i line.room →
+        HasHandedOut observe i worker now old new (record { instance = i; worker = worker; task = task; held = line; positions = positions; job = done })
     handed held room = record {
       stands = stands;
-      served = served_on gathered.served (ap (λ (r : Run). r.plan) run) (ap length seats);
+      served = served_on gathered.served (ap (λ (r : Run). r.plan) run) (ap length states);
       lent = lends;
       well = wells;
       size = size;
@@ -481,7 +481,7 @@ module _ {P : Type 0} {told_by : P → Told} {i worker now : ℕ} {task : Task P
       left = rw log (record {
         out = gone.out;
         idle = gone.idle;
-        home = gone.home;
+        unleased = gone.unleased;
         kept = gone.kept;
         held = held;
         asked = gone.due;
@@ -496,6 +496,6 @@ module _ {P : Type 0} {told_by : P → Told} {i worker now : ℕ} {task : Task P
       noted = rw (log, ← lent.steps.noted) gathered.only;
       latest = ap (λ (r : Run). r.latest) (run ∙ gathered.leaves.run ∙ lent.run);
       plan = ap (λ (r : Run). r.plan) (run ∙ gathered.leaves.run ∙ lent.run);
-      had = had_task task (slice_get old.seats i) (slice_get mid.seats i) lent.seats.one;
-      others = λ j other. rw seats (rw (lent.seats.others j other) at (keeps_task (slice_get mid.seats j) (slice_get two.seats j) (gathered.leaves.seats j)));
+      had = had_task task (slice_get old.states i) (slice_get mid.states i) lent.states.one;
+      others = λ j other. rw states (rw (lent.states.others j other) at (keeps_task (slice_get mid.states j) (slice_get two.states j) (gathered.leaves.states j)));
     }

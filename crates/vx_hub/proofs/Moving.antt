@@ -2,7 +2,7 @@
 use Rattle.std.proofs.Common.{◌≡◌, ◌∙◌, ℕ, zero, suc, ◌+◌, ◌*◌, ◌<◌, ◌≤◌, ◌⊎◌, IfNone, Bool, true, false, List, [], ◌∷◌, Option, Some, None, length, inl, inr, refl, sym, ap, subst, arith}
 use Rattle.std.specs.Prelude.{◌^◌, ◌-◌, min, map, IsSomeAnd, slice_get}
 use Rattle.std.proofs.lemmas.Option.{slice_get_past}
-use Rattle.vx_ends.specs.Told.{Told}
+use Rattle.vx_ends.specs.Observation.{Observation}
 use Rattle.vx_ledger.specs.Ledger.{IsShort}
 use Rattle.vx_ledger.specs.declared.short.Short.{Short}
 use Rattle.vx_ledger.specs.declared.short.Short.TheVariants as short
@@ -36,10 +36,10 @@ use Rattle.vx_record.proofs.Steps.{length-children_of}
 use Rattle.vx_record.proofs.Wired.{component_in_place}
 use Rattle.vx_places.specs.Calls.{NoneWaits}
 use Rattle.vx_places.specs.Looks.{HasOutput, IsFirstRoom}
-use Rattle.vx_places.specs.Rooms.{rooms_if}
+use Rattle.vx_places.specs.Capacities.{capacities_if}
 use Rattle.vx_places.proofs.Firsts.{first_room_is}
 use Rattle.vx_places.proofs.Recorded.{none_waits_is, output_is}
-use Rattle.vx_moves.specs.declared.books.Books.{Books}
+use Rattle.vx_moves.specs.declared.engine.EngineState.{EngineState}
 use Rattle.vx_moves.specs.Leaving.{Leaves}
 use Rattle.vx_moves.specs.Spends.{IsNotedAs, IsSpendOf, MaySpendFrom, HasSpent}
 use Rattle.vx_moves.specs.Splitting.{IsSplitShort, oldest_readers}
@@ -67,7 +67,7 @@ pub record Keeps (old new : Record) : Type 0 where
   pub longer : length old ≤ length new
 
 -- no step was made yet, or the record grew
-abbrev pub HasBegun : {P : Type 0} → ℕ → Books P → Books P → Type 0
+abbrev pub HasBegun : {P : Type 0} → ℕ → EngineState P → EngineState P → Type 0
 HasBegun n old new = ((n ≡ 0) × (new ≡ old)) ⊎ Grew old.log new.log
 
 pub grew_by : {e : Entry} {h log : Record} → log ≡ e ∷ h → Grew h log
@@ -81,34 +81,34 @@ pub spent_enters : {i c : ℕ} {o : Outcome} {h log : Record} → IsNotedAs (Spe
 spent_enters (inl is) = let same = ap pushes is in omega (arith, same)
 spent_enters (inr more) = let same = ap pushes more.1.1 in omega (arith, same)
 
-module _ {P : Type 0} {told_by : P → Told} where
-  pub moves_keep : {i : ℕ} {old new : Books P} → HasMoved told_by i old new → Keeps old.log new.log
+module _ {P : Type 0} {observe : P → Observation} where
+  pub moves_keep : {i : ℕ} {old new : EngineState P} → HasMoved observe i old new → Keeps old.log new.log
   moves_keep {i} {old} {new} moved = carry (IsMoveOf i) (Keeps old.log) (λ h e follows kind was. let longer = was.longer in record {
     out = λ j. (one_keeps i j h e kind).0 ∙ was.out j;
     going = (one_keeps i i h e kind).1 ∙ was.going;
     longer = omega (arith, longer);
   }) old.log new.log moved.only (record { out = λ j. refl; going = refl; longer = omega arith })
 
-  pub moved_both : {i : ℕ} {old mid new : Books P} → HasMoved told_by i old mid → HasMoved told_by i mid new → HasMoved told_by i old new
+  pub moved_both : {i : ℕ} {old mid new : EngineState P} → HasMoved observe i old mid → HasMoved observe i mid new → HasMoved observe i old new
   moved_both {i} {old} {mid} {new} first second = assumption
       (adds_both (IsMoveOf i) old.log mid.log new.log first.only second.only, leaves_both first.leaves second.leaves, second.size ∙ first.size, second)
 
-  pub moved_by : {i : ℕ} {e : Entry} {old new : Books P} → Steps told_by e old new → Leaves old new →
-      IsMoveOf i old.log e → HasMoved told_by i old new
+  pub moved_by : {i : ℕ} {e : Entry} {old new : EngineState P} → Steps observe e old new → Leaves old new →
+      IsMoveOf i old.log e → HasMoved observe i old new
   moved_by {i} steps leaves kind = assumption (adds_step (IsMoveOf i) steps kind, leaves, steps)
 
-  pub moved_spent : {p : Place} {o : Outcome} {old new : Books P} → HasSpent told_by p o old new →
-      (o ≡ NoConsumer) ⊎ (o ≡ NewestDropped) → HasMoved told_by (owner p) old new
+  pub moved_spent : {p : Place} {o : Outcome} {old new : EngineState P} → HasSpent observe p o old new →
+      (o ≡ NoConsumer) ⊎ (o ≡ NewestDropped) → HasMoved observe (owner p) old new
   moved_spent {p} {o} {old} {new} spent which = assumption
       (adds_wider (IsSpendOf (owner p) o) (IsMoveOf (owner p)) (spend_moves (owner p) o which) old.log new.log spent.only, spent)
 
   -- where no step is left to make, the record has grown if there was one
-  pub grew_by_now : {i n : ℕ} {old mid new : Books P} → HasBegun n old mid → (CanMove mid i → ⊥) →
-      HasMoved told_by i mid new → CanMove old i → Grew old.log new.log
+  pub grew_by_now : {i n : ℕ} {old mid new : EngineState P} → HasBegun n old mid → (CanMove mid i → ⊥) →
+      HasMoved observe i mid new → CanMove old i → Grew old.log new.log
   grew_by_now (inl begun) none moved can = absurd (none (rw begun.1 can))
   grew_by_now (inr grew) none moved can = let longer = (moves_keep moved).longer in omega (arith, grew, longer)
 
-pub has_grown : {P : Type 0} (n : ℕ) (old new : Books P) → HasBegun n old new → 0 < n → Grew old.log new.log
+pub has_grown : {P : Type 0} (n : ℕ) (old new : EngineState P) → HasBegun n old new → 0 < n → Grew old.log new.log
 has_grown n old new begun some = grind arith
 
 -- WHAT MAY BE SPENT
@@ -119,18 +119,18 @@ oldest_by F none (p ∷ ps) some = refl
 -- numbers that are refused are some
 refused : (next n w a b : ℕ) → n ≡ next → w ≡ min (a * b) (2 ^ 64 - 1) → 2 ^ 63 < next + a * b → next ≤ 2 ^ 63 →
     (0 < a) × (0 < b) × (2 ^ 63 < n + w)
-refused next n w a b same told more kept = (grind arith, grind arith, omega (arith, same, told, more))
+refused next n w a b same observed more kept = (grind arith, grind arith, omega (arith, same, observed, more))
 
-module _ {P : Type 0} {told_by : P → Told} {books : Books P} (stands : Stands told_by books) where
-  none_waiting : (i : ℕ) → i < length books.seats → NoneWaits books.places i → all_waiting books.log i ≡ []
-  none_waiting i within none = (none_waits_is books.log books.places i (rw stands.size within) stands.legal stands.places).0 none
+module _ {P : Type 0} {observe : P → Observation} {engine : EngineState P} (stands : Stands observe engine) where
+  none_waiting : (i : ℕ) → i < length engine.states → NoneWaits engine.places i → all_waiting engine.log i ≡ []
+  none_waiting i within none = (none_waits_is engine.log engine.places i (rw stands.size within) stands.legal stands.places).0 none
 
   -- what nobody reads
-  pub may_spend_unread : (i : ℕ) {log : Record} → i < length books.seats → abandoned books.log ≡ false →
-      NoneWaits books.places i → oldest_readers books.log i ≡ [] →
-      log ≡ books.log → MaySpendFrom log (Outputs i) NoConsumer
+  pub may_spend_unread : (i : ℕ) {log : Record} → i < length engine.states → abandoned engine.log ≡ false →
+      NoneWaits engine.places i → oldest_readers engine.log i ≡ [] →
+      log ≡ engine.log → MaySpendFrom log (Outputs i) NoConsumer
   may_spend_unread i within going none readers same =
-      let h = books.log in
+      let h = engine.log in
       let copies = oldest (outputs h i) in rw same (record {
         cause = λ c some.
             let next : 0 < count c copies = subst (λ (ps : List (List ℕ)). 0 < count c (oldest ps)) (sym (stands_at h (Outputs i) stands.legal)) some in
@@ -144,15 +144,15 @@ module _ {P : Type 0} {told_by : P → Told} {books : Books P} (stands : Stands 
       })
 
   -- what a full buffer drops
-  pub may_spend_newest : (i t : ℕ) (stage : Option ℕ) → abandoned books.log ≡ false → IsFirstRoom books.places t stage →
-      IfNone stage (last_drops (stages_of books.log t) ≡ true) → stage ≡ None → MaySpendFrom books.log (Waiting i t) NewestDropped
+  pub may_spend_newest : (i t : ℕ) (stage : Option ℕ) → abandoned engine.log ≡ false → IsFirstRoom engine.places t stage →
+      IfNone stage (last_drops (stages_of engine.log t) ≡ true) → stage ≡ None → MaySpendFrom engine.log (Waiting i t) NewestDropped
   may_spend_newest i t (Some s) going full drops is = absurd cc
   may_spend_newest i t None going full drops is = record {
     cause = λ c some. (
       t,
       record {
-        next = subst (λ (ps : List (List ℕ)). 0 < count c (oldest ps)) (sym (stands_at books.log (Waiting i t) stands.legal)) some;
-        full = first_room_is books.log books.places t None stands.legal stands.places (stands.rooms.stages t) full;
+        next = subst (λ (ps : List (List ℕ)). 0 < count c (oldest ps)) (sym (stands_at engine.log (Waiting i t) stands.legal)) some;
+        full = first_room_is engine.log engine.places t None stands.legal stands.places (stands.capacities.stages t) full;
         drops = drops;
       },
     );
@@ -160,12 +160,12 @@ module _ {P : Type 0} {told_by : P → Told} {books : Books P} (stands : Stands 
   }
 
   -- WHY A SPLIT ISN'T MADE
-  split_wants : (i : ℕ) (copies : List ℕ) → i < length books.seats → is_out books.log i ≡ false →
-      NoneWaits books.places i → IsOldest copies (outputs books.log i) →
-      0 < length (readers_on books.log i (port_list (parcel_ports books.log copies))) →
-      SplitWants books.log (capped (length (readers_on books.log i (port_list (parcel_ports books.log copies))) * length copies))
-  split_wants i copies within home none is some =
-      let h = books.log in
+  split_wants : (i : ℕ) (copies : List ℕ) → i < length engine.states → is_out engine.log i ≡ false →
+      NoneWaits engine.places i → IsOldest copies (outputs engine.log i) →
+      0 < length (readers_on engine.log i (port_list (parcel_ports engine.log copies))) →
+      SplitWants engine.log (capped (length (readers_on engine.log i (port_list (parcel_ports engine.log copies))) * length copies))
+  split_wants i copies within unleased none is some =
+      let h = engine.log in
       let ports = parcel_ports h copies in
       let made = routes h i (port_list ports) in
       let children = children_of (next_copy h) (length copies) made in
@@ -177,7 +177,7 @@ module _ {P : Type 0} {told_by : P → Told} {books : Books P} (stands : Stands 
         event = parcel_event h copies;
         children = children;
         split = record {
-          home = home;
+          unleased = unleased;
           none_waits = none_waiting i within none;
           oldest = is;
           on_ports = refl;
@@ -188,55 +188,55 @@ module _ {P : Type 0} {told_by : P → Told} {books : Books P} (stands : Stands 
         many = ap (λ n. capped (n * length copies)) (sym many);
       }
 
-  pub split_reason : (i : ℕ) (cause : Short) {log : Record} → i < length books.seats → is_out books.log i ≡ false →
-      NoneWaits books.places i →
-      IsSplitShort books.log i cause → log ≡ books.log → HasReason log (fatal_of cause)
-  split_reason i short.WantOfMemory within home none is same = tt
-  split_reason i (short.Numbers n w) within home none is same =
-      let h = books.log in
+  pub split_reason : (i : ℕ) (cause : Short) {log : Record} → i < length engine.states → is_out engine.log i ≡ false →
+      NoneWaits engine.places i →
+      IsSplitShort engine.log i cause → log ≡ engine.log → HasReason log (fatal_of cause)
+  split_reason i short.WantOfMemory within unleased none is same = tt
+  split_reason i (short.Numbers n w) within unleased none is same =
+      let h = engine.log in
       let copies = oldest (outputs h i) in
       let readers = readers_on h i (port_list (parcel_ports h copies)) in
       let lacks : IsShort (next_copy h) (length readers * length copies) (short.Numbers n w) =
       subst (λ (ps : List (List ℕ)). IsShort (next_copy h) (length (readers_on h i (port_list (parcel_ports h (oldest ps)))) * length (oldest ps))
       (short.Numbers n w)) (sym (stands_at h (Outputs i) stands.legal)) is in
       let some = refused (next_copy h) n w (length readers) (length copies) lacks.0 lacks.1 lacks.2 (numbers_bounded h stands.legal) in
-      let wants = split_wants i copies within home none (oldest_by length refl (outputs h i) some.1) some.0 in
+      let wants = split_wants i copies within unleased none (oldest_by length refl (outputs h i) some.1) some.0 in
       rw same (lacks.0, some.2, inr (subst (λ k. SplitWants h k) (sym lacks.1) wants))
 
   -- WHAT IS PUT OUT
   -- where an instance has an output, that is the record's
-  some_put : (i : ℕ) → HasOutput books.places i → at books.log (Outputs i) ≡ [] → ⊥
+  some_put : (i : ℕ) → HasOutput engine.places i → at engine.log (Outputs i) ≡ [] → ⊥
   some_put i has none =
-      let some = (output_is books.log books.places i stands.legal stands.places).0 has in
-      let gone = ap length (stands_at books.log (Outputs i) stands.legal ∙ none) in
+      let some = (output_is engine.log engine.places i stands.legal stands.places).0 has in
+      let gone = ap length (stands_at engine.log (Outputs i) stands.legal ∙ none) in
       omega (arith, some, gone)
 
-  pub unread_moves : {i : ℕ} {mid new : Books P} (spent : Bool) → HasOutput books.places i → mid.log ≡ books.log →
-      Stands told_by mid → Leaves books mid → length mid.seats ≡ length books.seats →
-      (spent ≡ true → HasSpent told_by (Outputs i) NoConsumer mid new) → (spent ≡ false → at mid.log (Outputs i) ≡ []) →
-      HasMoved told_by i books new × HaveEntered 0 books.log new.log × Grew books.log new.log
+  pub unread_moves : {i : ℕ} {mid new : EngineState P} (spent : Bool) → HasOutput engine.places i → mid.log ≡ engine.log →
+      Stands observe mid → Leaves engine mid → length mid.states ≡ length engine.states →
+      (spent ≡ true → HasSpent observe (Outputs i) NoConsumer mid new) → (spent ≡ false → at mid.log (Outputs i) ≡ []) →
+      HasMoved observe i engine new × HaveEntered 0 engine.log new.log × Grew engine.log new.log
   unread_moves {i} {mid} true has still standing leaves size some none =
-      let first : HasMoved told_by i books mid = assumption (adds_none (IsMoveOf i) books.log mid.log still) in
+      let first : HasMoved observe i engine mid = assumption (adds_none (IsMoveOf i) engine.log mid.log still) in
       (moved_both first (moved_spent (some refl) (inl refl)), rw (← still) (spent_enters (some refl).noted), rw (← still) (noted_grew (some refl).noted))
   unread_moves {i} {mid} false has still standing leaves size some none = absurd (some_put i has (rw still at (none refl)))
 
   -- WHERE NOTHING CAN COME
   -- past the last instance there is no stage
-  pub none_past : (t : ℕ) (stage : Option ℕ) → length books.places ≤ t → IsFirstRoom books.places t stage →
-      IfNone stage (last_drops (stages_of books.log t) ≡ true) → ⊥
-  none_past t (Some s) past first may = rw (slice_get_past books.places t past) at first.0
-  none_past t None past first may = go (stages_of books.log t) (ap rooms_if (sym (slice_get_past books.places t past)) ∙ stands.rooms.stages t) may
+  pub none_past : (t : ℕ) (stage : Option ℕ) → length engine.places ≤ t → IsFirstRoom engine.places t stage →
+      IfNone stage (last_drops (stages_of engine.log t) ≡ true) → ⊥
+  none_past t (Some s) past first may = rw (slice_get_past engine.places t past) at first.0
+  none_past t None past first may = go (stages_of engine.log t) (ap capacities_if (sym (slice_get_past engine.places t past)) ∙ stands.capacities.stages t) may
     where
       go : (list : List Stage) → [] ≡ map (λ (stage : Stage). stage.max_events) list → last_drops list ≡ true → ⊥
       go [] none drops = cc
       go (stage ∷ rest) none drops = cc
 
   -- WHAT A FULL BUFFER DOES is what the plan says
-  pub planned_drops : (i : ℕ) {o : Option Component} → slice_get books.run.plan.components i ≡ o →
-      last_drops (stages_of books.log i) ≡ last_drops (elim o [ None ↦ [] | Some c ↦ stages c ])
+  pub planned_drops : (i : ℕ) {o : Option Component} → slice_get engine.run.plan.components i ≡ o →
+      last_drops (stages_of engine.log i) ≡ last_drops (elim o [ None ↦ [] | Some c ↦ stages c ])
   planned_drops i is =
       ap (λ (x : Option Component). last_drops (elim x [ None ↦ [] | Some c ↦ stages c ]))
-      (component_in_place books.log books.run.plan i stands.legal stands.run.installed ∙ is)
+      (component_in_place engine.log engine.run.plan i stands.legal stands.run.installed ∙ is)
 
 pub last_at : (list : List Stage) (k : ℕ) → k + 1 ≡ length list →
     IsSomeAnd (slice_get list k) (λ stage. drops_newest stage.when_full ≡ last_drops list)

@@ -21,7 +21,7 @@ use Rattle.vx_value.specs.Texts.{is_empty}
 use Rattle.vx_record.proofs.SourceEnds.{source_done}
 use Rattle.vx_record.proofs.Vacant.{is_empty_of, unbuffered}
 use Rattle.vx_record.proofs.WorkerEnds.{worker_done}
-use Rattle.vx_sourcecore.specs.Lines.{is_generating, is_swallowing}
+use Rattle.vx_sourcecore.specs.Lines.{is_generating, is_blackhole}
 use Rattle.vx_tasks.specs.Joining.{is_joining}
 use Rattle.vx_hub.specs.Standing.{merges}
 use Rattle.vx_ready.specs.Asking.{source_class, transform_class, sink_class, has_few_ports, is_served, all_served}
@@ -43,16 +43,16 @@ served_at (d ∷ rest) (suc i) c all at = served_at rest i c (and_parts (is_serv
 judge_tests : (device judging few joining : Bool) → ((device && false) || (judging && not device && few) || false || false || (joining && not device && few)) ≡ true → joining ≡ false → judging ≡ true
 judge_tests device judging few joining is alone = grind (arith, is, alone)
 
-served_tests : (class : Class) (device judging few generating swallowing joining : Bool) →
-    ((device && not (transform_class class)) || (transform_class class && judging && not device && few) || (source_class class && generating) || (sink_class class && swallowing)
+served_tests : (class : Class) (device judging few generating blackhole joining : Bool) →
+    ((device && not (transform_class class)) || (transform_class class && judging && not device && few) || (source_class class && generating) || (sink_class class && blackhole)
     || (transform_class class && joining && not device && few)) ≡ true →
     transform_class class ≡ true → (transform_class class && joining) ≡ false → judging ≡ true
-served_tests Source device judging few generating swallowing joining is transform alone = cc
-served_tests Transform device judging few generating swallowing joining is transform alone = judge_tests device judging few joining is alone
-served_tests Sink device judging few generating swallowing joining is transform alone = cc
+served_tests Source device judging few generating blackhole joining is transform alone = cc
+served_tests Transform device judging few generating blackhole joining is transform alone = judge_tests device judging few joining is alone
+served_tests Sink device judging few generating blackhole joining is transform alone = cc
 
 pub serves : (c : Component) → is_served c ≡ true → is_transform c ≡ true → merges c ≡ false → is_judging c.settings ≡ true
-serves c = served_tests c.class (has_device c.settings) (is_judging c.settings) (has_few_ports c) (is_generating c.settings) (is_swallowing c.settings) (is_joining c.settings)
+serves c = served_tests c.class (has_device c.settings) (is_judging c.settings) (has_few_ports c) (is_generating c.settings) (is_blackhole c.settings) (is_joining c.settings)
 
 -- INSTANCES
 -- what is done has no work, if it is a transform
@@ -107,7 +107,7 @@ done_unready h i now legal off done = by_class (component_of h i) (is_source_rea
     worker : source_at h i ≡ false → (is_transform_ready h i ≡ false) × (is_sink_ready h i now ≡ false)
     worker other =
         let was = worker_done h i legal other done in
-        let none = is_empty_of (held h i) was.empty.hands in (
+        let none = is_empty_of (held h i) was.empty.holdings in (
           unflowing (is_sent h i) (is_empty (buffered h i)) (is_ending h i) (is_empty (held h i)) (unbuffered h i was.empty) none,
           or_from (is_attempt_due h i now || can_take h i now) (is_close_due h i)
               (or_from (is_attempt_due h i now) (can_take h i now)

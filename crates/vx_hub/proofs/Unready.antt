@@ -1,9 +1,9 @@
--- While a source may give more, an instance in whose buffer and hand nothing stands has no work, unless it is a source.
+-- While a source may give more, an instance in whose buffer and among whose held parcels nothing stands has no work, unless it is a source.
 use Rattle.std.proofs.Common.{◌≡◌, ◌∙◌, ◌⊎◌, ℕ, zero, suc, ◌+◌, ◌<◌, ◌≤◌, Bool, true, false, ◌&&◌, ◌||◌, List, [], ◌∷◌, length, slice_index, Option, Some, None, IfSome, IfNone, IsSomeAnd, inl, inr, refl, sym, ap, subst, arith}
 use Rattle.std.specs.Prelude.{not, nat_le, slice_get, if◌then◌else◌}
 use Rattle.std.proofs.lemmas.Bool.{cases_Bool, cases_eq}
 use Rattle.vx_value.specs.Texts.{is_empty}
-use Rattle.vx_ends.specs.Told.{Told}
+use Rattle.vx_ends.specs.Observation.{Observation}
 use Rattle.vx_ledger.specs.declared.parcel.Parcel.{Parcel}
 use Rattle.vx_plan.specs.Components.{is_source, is_transform, is_sink}
 use Rattle.vx_plan.specs.declared.class.Class.{Class}
@@ -18,7 +18,7 @@ use Rattle.vx_record.specs.Routing.{all_dry, is_dry, is_ending, is_named, is_sen
 use Rattle.vx_record.specs.SinkBatches.{is_full_batch, is_timed_out, is_last_batch, was_attempted, retry_from}
 use Rattle.vx_record.proofs.Wired.{component_in_place}
 use Rattle.vx_places.specs.Marks.{IsBefore, IsUnfilled}
-use Rattle.vx_moves.specs.declared.books.Books.{Books}
+use Rattle.vx_moves.specs.declared.engine.EngineState.{EngineState}
 use Rattle.vx_moves.specs.Stands.{Stands}
 use Rattle.vx_ready.proofs.Done.{held_is, unbuffered_is}
 use Rattle.vx_ready.proofs.Naming.{ending_there}
@@ -33,17 +33,17 @@ cases_below a zero = inr (omega arith)
 cases_below zero (suc b) = inl (omega arith)
 cases_below (suc a) (suc b) = elim (cases_below a b) [ inl l ↦ inl (omega (arith, l)) | inr l ↦ inr (omega (arith, l)) ]
 
-module _ {P : Type 0} (is_of : Record → ℕ → Bool) (books : Books P) (now from : ℕ) (next : Option ℕ) (asked : NoneFilled is_of books now from)
-    (passed : (i : ℕ) → from ≤ i → i < length books.places → IsBefore i next → IsUnfilled books.places i) where
-  pub filled_all : (n : ℕ) → n ≤ length books.places → ((i : ℕ) → i < n → IsBefore i next) → NoneFilled is_of books now n
+module _ {P : Type 0} (is_of : Record → ℕ → Bool) (engine : EngineState P) (now from : ℕ) (next : Option ℕ) (asked : NoneFilled is_of engine now from)
+    (passed : (i : ℕ) → from ≤ i → i < length engine.places → IsBefore i next → IsUnfilled engine.places i) where
+  pub filled_all : (n : ℕ) → n ≤ length engine.places → ((i : ℕ) → i < n → IsBefore i next) → NoneFilled is_of engine now n
   filled_all n within before i l = elim (cases_below i from) [
     | inl less ↦ asked i less
     | inr more ↦ inl (passed i more (omega (arith, l, within)) (before i l))
   ]
 
-  pub filled_further : (k : ℕ) → k ≤ length books.places → ((i : ℕ) → i < k → IsBefore i next) → (is_of books.log k ≡ true → NoneFoundAt books now k) → NoneFilled is_of books now (k + 1)
+  pub filled_further : (k : ℕ) → k ≤ length engine.places → ((i : ℕ) → i < k → IsBefore i next) → (is_of engine.log k ≡ true → NoneFoundAt engine now k) → NoneFilled is_of engine now (k + 1)
   filled_further k within before here i l = elim (cases_eq i k) [
-    | inl same ↦ inr (subst (λ (j : ℕ). is_of books.log j ≡ true → NoneFoundAt books now j) (sym same) here)
+    | inl same ↦ inr (subst (λ (j : ℕ). is_of engine.log j ≡ true → NoneFoundAt engine now j) (sym same) here)
     | inr other ↦ filled_all k within before i (omega (arith, l, other))
   ]
 
@@ -59,22 +59,22 @@ none_tests : {X : Type 0} (xs : List X) → 0 ≡ length xs → is_empty xs ≡ 
 none_tests [] same = refl
 none_tests (x ∷ xs) same = absurd (omega (arith, same))
 
-module _ {P : Type 0} {told_by : P → Told} {books : Books P} (stands : Stands told_by books) (now : ℕ) (dry : all_dry books.log ≡ false) where
-  module _ (i : ℕ) (within : i < length books.seats) (other : source_at books.log i ≡ false) (unfilled : IsUnfilled books.places i) where
-    buffer_none : is_empty (buffered books.log i) ≡ true
-    buffer_none = sym (unbuffered_is told_by books i true stands (λ e. unfilled.0, λ e. refl))
+module _ {P : Type 0} {observe : P → Observation} {engine : EngineState P} (stands : Stands observe engine) (now : ℕ) (dry : all_dry engine.log ≡ false) where
+  module _ (i : ℕ) (within : i < length engine.states) (other : source_at engine.log i ≡ false) (unfilled : IsUnfilled engine.places i) where
+    buffer_none : is_empty (buffered engine.log i) ≡ true
+    buffer_none = sym (unbuffered_is observe engine i true stands (λ e. unfilled.0, λ e. refl))
 
-    held_none : is_empty (held books.log i) ≡ true
-    held_none = none_tests (held books.log i) (held_is told_by books i 0 stands (subst (λ (o : Option (List Parcel)). IsSomeAnd o (λ parcels. 0 ≡ length parcels)) (sym unfilled.1) refl))
+    held_none : is_empty (held engine.log i) ≡ true
+    held_none = none_tests (held engine.log i) (held_is observe engine i 0 stands (subst (λ (o : Option (List Parcel)). IsSomeAnd o (λ parcels. 0 ≡ length parcels)) (sym unfilled.1) refl))
 
-    unending : is_ending books.log i ≡ false
-    unending = sym (ending_there told_by books stands i within false false (is_named books.log i) (sym other) (sym dry) refl)
+    unending : is_ending engine.log i ≡ false
+    unending = sym (ending_there observe engine stands i within false false (is_named engine.log i) (sym other) (sym dry) refl)
 
-    unfilled_unready : is_ready books.log i now ≡ false
-    unfilled_unready = go (component_of books.log i) other
+    unfilled_unready : is_ready engine.log i now ≡ false
+    unfilled_unready = go (component_of engine.log i) other
       where
         h : Record
-        h = books.log
+        h = engine.log
 
         by_class : (k : Class) → (elim k [ Source ↦ true | Transform ↦ false | Sink ↦ false ]) ≡ false →
             (elim k [ Source ↦ is_source_ready h i now | Transform ↦ is_transform_ready h i | Sink ↦ is_sink_ready h i now ]) ≡ false
@@ -89,8 +89,8 @@ module _ {P : Type 0} {told_by : P → Told} {books : Books P} (stands : Stands 
         go (Some c) no_source = by_class c.class no_source
 
   -- so it is of all of a class, which aren't sources, where the filled ones were asked
-  pub none_of_class : (is_of : Record → ℕ → Bool) → ((i : ℕ) → is_of books.log i ≡ true → source_at books.log i ≡ false) →
-      NoneFilled is_of books now (length books.seats) → NoneFound is_of books now (length books.seats)
+  pub none_of_class : (is_of : Record → ℕ → Bool) → ((i : ℕ) → is_of engine.log i ≡ true → source_at engine.log i ≡ false) →
+      NoneFilled is_of engine now (length engine.states) → NoneFound is_of engine now (length engine.states)
   none_of_class is_of others asked i within is = elim (asked i within) [
     | inl unfilled ↦ λ settled usable alone. unfilled_unready i within (others i is) unfilled
     | inr none ↦ none is
@@ -122,70 +122,70 @@ pub transform_unsourced : (h : Record) (i : ℕ) → transform_at h i ≡ true �
 transform_unsourced h i = transform_other (component_of h i)
 
 -- THE SOURCES
-module _ {P : Type 0} {told_by : P → Told} {books : Books P} (stands : Stands told_by books) (sources : List ℕ)
-    (are : AreSources books.run.plan.components (length books.seats) sources) where
-  in_place : (i : ℕ) → component_of books.log i ≡ slice_get books.run.plan.components i
-  in_place i = component_in_place books.log books.run.plan i stands.legal stands.run.installed
+module _ {P : Type 0} {observe : P → Observation} {engine : EngineState P} (stands : Stands observe engine) (sources : List ℕ)
+    (are : AreSources engine.run.plan.components (length engine.states) sources) where
+  in_place : (i : ℕ) → component_of engine.log i ≡ slice_get engine.run.plan.components i
+  in_place i = component_in_place engine.log engine.run.plan i stands.legal stands.run.installed
 
   -- each that is kept is one
-  pub source_among : (k i : ℕ) → slice_get sources k ≡ Some i → (i < length books.seats) × (source_at books.log i ≡ true)
+  pub source_among : (k i : ℕ) → slice_get sources k ≡ Some i → (i < length engine.states) × (source_at engine.log i ≡ true)
   source_among k i at =
-      let is = subst (λ (o : Option ℕ). IfSome o (λ j. (j < length books.seats) × IsSomeAnd (slice_get books.run.plan.components j) (λ c. is_source c ≡ true))) at (are.only k) in
-      (is.0, subst (λ (o : Option Component). (elim o [ None ↦ false | Some c ↦ is_source c ]) ≡ true) (sym (in_place i)) (there (slice_get books.run.plan.components i) is.1))
+      let is = subst (λ (o : Option ℕ). IfSome o (λ j. (j < length engine.states) × IsSomeAnd (slice_get engine.run.plan.components j) (λ c. is_source c ≡ true))) at (are.only k) in
+      (is.0, subst (λ (o : Option Component). (elim o [ None ↦ false | Some c ↦ is_source c ]) ≡ true) (sym (in_place i)) (there (slice_get engine.run.plan.components i) is.1))
     where
       there : (o : Option Component) → IsSomeAnd o (λ c. is_source c ≡ true) → (elim o [ None ↦ false | Some c ↦ is_source c ]) ≡ true
       there None never = absurd never
       there (Some c) is = is
 
-  pub one_gives_more : (k i : ℕ) → slice_get sources k ≡ Some i → is_dry books.log i ≡ false → all_dry books.log ≡ false
+  pub one_gives_more : (k i : ℕ) → slice_get sources k ≡ Some i → is_dry engine.log i ≡ false → all_dry engine.log ≡ false
   one_gives_more k i at wet =
       let is = source_among k i at in
-      sym (one_gives told_by books stands i true is.0 (sym (ap (λ (b : Bool). b && not (is_dry books.log i)) is.1 ∙ ap not wet)) refl)
+      sym (one_gives observe engine stands i true is.0 (sym (ap (λ (b : Bool). b && not (is_dry engine.log i)) is.1 ∙ ap not wet)) refl)
 
   -- and each one is kept, so it was asked
-  asked_source : (now : ℕ) → ((k : ℕ) → IfSome (slice_get sources k) (NoneFoundAt books now)) → (i : ℕ) → source_at books.log i ≡ true → NoneFoundAt books now i
-  asked_source now none i source = go (slice_get books.run.plan.components i) (are.all i) (subst (λ (o : Option Component). (elim o [ None ↦ false | Some c ↦ is_source c ]) ≡ true) (in_place i) source)
+  asked_source : (now : ℕ) → ((k : ℕ) → IfSome (slice_get sources k) (NoneFoundAt engine now)) → (i : ℕ) → source_at engine.log i ≡ true → NoneFoundAt engine now i
+  asked_source now none i source = go (slice_get engine.run.plan.components i) (are.all i) (subst (λ (o : Option Component). (elim o [ None ↦ false | Some c ↦ is_source c ]) ≡ true) (in_place i) source)
     where
-      go : (o : Option Component) → IfSome o (λ c. is_source c ≡ true → (k : ℕ) × (slice_get sources k ≡ Some i)) → (elim o [ None ↦ false | Some c ↦ is_source c ]) ≡ true → NoneFoundAt books now i
+      go : (o : Option Component) → IfSome o (λ c. is_source c ≡ true → (k : ℕ) × (slice_get sources k ≡ Some i)) → (elim o [ None ↦ false | Some c ↦ is_source c ]) ≡ true → NoneFoundAt engine now i
       go None all is = cc
-      go (Some c) all is = let at = all is in subst (λ (o : Option ℕ). IfSome o (NoneFoundAt books now)) at.1 (none at.0)
+      go (Some c) all is = let at = all is in subst (λ (o : Option ℕ). IfSome o (NoneFoundAt engine now)) at.1 (none at.0)
 
   -- NONE AT ALL
-  classes : (now : ℕ) (i : ℕ) → source_at books.log i ≡ false → (sink_at books.log i ≡ true → NoneFoundAt books now i) → (transform_at books.log i ≡ true → NoneFoundAt books now i) → NoneFoundAt books now i
-  classes now i other sink transform = go (component_of books.log i) refl other sink transform
+  classes : (now : ℕ) (i : ℕ) → source_at engine.log i ≡ false → (sink_at engine.log i ≡ true → NoneFoundAt engine now i) → (transform_at engine.log i ≡ true → NoneFoundAt engine now i) → NoneFoundAt engine now i
+  classes now i other sink transform = go (component_of engine.log i) refl other sink transform
     where
-      go : (o : Option Component) → component_of books.log i ≡ o → (elim o [ None ↦ false | Some c ↦ is_source c ]) ≡ false →
-          ((elim o [ None ↦ false | Some c ↦ is_sink c ]) ≡ true → NoneFoundAt books now i) → ((elim o [ None ↦ false | Some c ↦ is_transform c ]) ≡ true → NoneFoundAt books now i) → NoneFoundAt books now i
-      go None is nil s t = λ settled usable alone. ap (λ (o : Option Component). elim o [ None ↦ false | Some c ↦ elim c.class [ Source ↦ is_source_ready books.log i now | Transform ↦ is_transform_ready books.log i | Sink ↦ is_sink_ready books.log i now ] ]) is
+      go : (o : Option Component) → component_of engine.log i ≡ o → (elim o [ None ↦ false | Some c ↦ is_source c ]) ≡ false →
+          ((elim o [ None ↦ false | Some c ↦ is_sink c ]) ≡ true → NoneFoundAt engine now i) → ((elim o [ None ↦ false | Some c ↦ is_transform c ]) ≡ true → NoneFoundAt engine now i) → NoneFoundAt engine now i
+      go None is nil s t = λ settled usable alone. ap (λ (o : Option Component). elim o [ None ↦ false | Some c ↦ elim c.class [ Source ↦ is_source_ready engine.log i now | Transform ↦ is_transform_ready engine.log i | Sink ↦ is_sink_ready engine.log i now ] ]) is
       go (Some c) is nil s t = by_class c.class nil s t
         where
           by_class : (k : Class) → (elim k [ Source ↦ true | Transform ↦ false | Sink ↦ false ]) ≡ false →
-              ((elim k [ Source ↦ false | Transform ↦ false | Sink ↦ true ]) ≡ true → NoneFoundAt books now i) → ((elim k [ Source ↦ false | Transform ↦ true | Sink ↦ false ]) ≡ true → NoneFoundAt books now i) → NoneFoundAt books now i
+              ((elim k [ Source ↦ false | Transform ↦ false | Sink ↦ true ]) ≡ true → NoneFoundAt engine now i) → ((elim k [ Source ↦ false | Transform ↦ true | Sink ↦ false ]) ≡ true → NoneFoundAt engine now i) → NoneFoundAt engine now i
           by_class Source nil s t = cc
           by_class Transform nil s t = t refl
           by_class Sink nil s t = s refl
 
-  pub none_at_all : (now : ℕ) → books.run.latest ≤ now → NoneFound sink_at books now (length books.seats) → NoneFound transform_at books now (length books.seats) →
-      ((k : ℕ) → IfSome (slice_get sources k) (NoneFoundAt books now)) → NoneReady books now
-  none_at_all now latest sinks transforms none = none_ready now (length books.seats) stands latest (omega arith) each
+  pub none_at_all : (now : ℕ) → engine.run.latest ≤ now → NoneFound sink_at engine now (length engine.states) → NoneFound transform_at engine now (length engine.states) →
+      ((k : ℕ) → IfSome (slice_get sources k) (NoneFoundAt engine now)) → NoneReady engine now
+  none_at_all now latest sinks transforms none = none_ready now (length engine.states) stands latest (omega arith) each
     where
-      each : NoneBelow books now (length books.seats)
-      each i within = elim (cases_Bool (source_at books.log i)) [
+      each : NoneBelow engine now (length engine.states)
+      each i within = elim (cases_Bool (source_at engine.log i)) [
         | inl source ↦ asked_source now none i source
         | inr other ↦ classes now i other (sinks i within) (transforms i within)
       ]
 
 -- WHO GOES FIRST
-pub first_sink : {P : Type 0} (books : Books P) (now i : ℕ) → sink_at books.log i ≡ true → GoesFirst books now i
-first_sink books now i sink = record {
+pub first_sink : {P : Type 0} (engine : EngineState P) (now i : ℕ) → sink_at engine.log i ≡ true → GoesFirst engine now i
+first_sink engine now i sink = record {
   sinks = λ no. let clash : true ≡ false = sym sink ∙ no in let never : ⊥ = cc in absurd never;
-  transforms = λ source. let clash : false ≡ true = sym (sink_unsourced books.log i sink) ∙ source in let never : ⊥ = cc in absurd never;
+  transforms = λ source. let clash : false ≡ true = sym (sink_unsourced engine.log i sink) ∙ source in let never : ⊥ = cc in absurd never;
 }
 
-pub first_transform : {P : Type 0} (books : Books P) (now i : ℕ) → transform_at books.log i ≡ true → NoneFound sink_at books now (length books.seats) → GoesFirst books now i
-first_transform books now i transform none = record {
+pub first_transform : {P : Type 0} (engine : EngineState P) (now i : ℕ) → transform_at engine.log i ≡ true → NoneFound sink_at engine now (length engine.states) → GoesFirst engine now i
+first_transform engine now i transform none = record {
   sinks = λ no. none;
-  transforms = λ source. let clash : false ≡ true = sym (transform_unsourced books.log i transform) ∙ source in let never : ⊥ = cc in absurd never;
+  transforms = λ source. let clash : false ≡ true = sym (transform_unsourced engine.log i transform) ∙ source in let never : ⊥ = cc in absurd never;
 }
 
 -- BY ONE MORE

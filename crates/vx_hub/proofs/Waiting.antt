@@ -13,7 +13,7 @@ use Rattle.vx_places.specs.Views.{row_at, here_if, parcels_here}
 use Rattle.vx_places.specs.Calls.{IsOldestFor, NoneBefore}
 use Rattle.vx_places.specs.Looks.{HasSent}
 use Rattle.vx_places.specs.Marks.{IsBefore}
-use Rattle.vx_moves.specs.declared.books.Books.{Books}
+use Rattle.vx_moves.specs.declared.engine.EngineState.{EngineState}
 use Rattle.vx_hub.specs.Pushing.{CanMove, NoneMovesBelow}
 
 -- a child is for a target, so that there is one
@@ -41,16 +41,16 @@ no_output : (o : Option (List Parcel)) → IsSomeAnd o (λ parcels. 0 < length p
 no_output None is none = is
 no_output (Some parcels) is none = let same : parcels ≡ [] = cc in let l = subst (λ (ps : List Parcel). 0 < length ps) same is in omega (arith, l)
 
-module _ {P : Type 0} (books : Books P) where
-  pub sent_rests : (i : ℕ) → HasSent books.places i → CanMove books i → ⊥
-  sent_rests i sent (inl split) = no_output (parcels_here books.places (Outputs i)) split.1 sent.0
-  sent_rests i sent (inr pass) = none_waiting books.places i pass.target pass.child pass.oldest (sent.1 pass.target)
+module _ {P : Type 0} (engine : EngineState P) where
+  pub sent_rests : (i : ℕ) → HasSent engine.places i → CanMove engine i → ⊥
+  sent_rests i sent (inl split) = no_output (parcels_here engine.places (Outputs i)) split.1 sent.0
+  sent_rests i sent (inr pass) = none_waiting engine.places i pass.target pass.child pass.oldest (sent.1 pass.target)
 
   -- so it is of all before the next that may not have sent all, and that itself can't move any
-  pub none_before : (from : ℕ) (next : Option ℕ) → NoneMovesBelow from books → ((i : ℕ) → from ≤ i → i < length books.places → IsBefore i next → HasSent books.places i) →
-      (n : ℕ) → n ≤ length books.places → ((i : ℕ) → i < n → IsBefore i next) → NoneMovesBelow n books
-  none_before from next below sent n within before i l home moves = elim (cases_below i from) [
-    | inl less ↦ below i less home moves
+  pub none_before : (from : ℕ) (next : Option ℕ) → NoneMovesBelow from engine → ((i : ℕ) → from ≤ i → i < length engine.places → IsBefore i next → HasSent engine.places i) →
+      (n : ℕ) → n ≤ length engine.places → ((i : ℕ) → i < n → IsBefore i next) → NoneMovesBelow n engine
+  none_before from next below sent n within before i l unleased moves = elim (cases_below i from) [
+    | inl less ↦ below i less unleased moves
     | inr more ↦ sent_rests i (sent i more (omega (arith, l, within)) (before i l)) moves
   ]
     where
@@ -59,8 +59,8 @@ module _ {P : Type 0} (books : Books P) where
       cases_below zero (suc b) = inl (omega arith)
       cases_below (suc a) (suc b) = elim (cases_below a b) [ inl l ↦ inl (omega (arith, l)) | inr l ↦ inr (omega (arith, l)) ]
 
-  pub one_more_rests : (k : ℕ) → NoneMovesBelow k books → (is_out books.log k ≡ false → CanMove books k → ⊥) → NoneMovesBelow (k + 1) books
-  one_more_rests k below here i l home moves = elim (cases_eq i k) [
-    | inl same ↦ here (subst (λ (j : ℕ). is_out books.log j ≡ false) same home) (subst (λ (j : ℕ). CanMove books j) same moves)
-    | inr other ↦ below i (omega (arith, l, other)) home moves
+  pub one_more_rests : (k : ℕ) → NoneMovesBelow k engine → (is_out engine.log k ≡ false → CanMove engine k → ⊥) → NoneMovesBelow (k + 1) engine
+  one_more_rests k below here i l unleased moves = elim (cases_eq i k) [
+    | inl same ↦ here (subst (λ (j : ℕ). is_out engine.log j ≡ false) same unleased) (subst (λ (j : ℕ). CanMove engine j) same moves)
+    | inr other ↦ below i (omega (arith, l, other)) unleased moves
   ]

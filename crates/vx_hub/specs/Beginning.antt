@@ -15,29 +15,29 @@ use Rattle.vx_sourcecore.specs.declared.source.SourceCore.{SourceCore}
 use Rattle.vx_sourcecore.specs.declared.generator.Generator.{Generator as Maker}
 use Rattle.vx_sourcecore.specs.Sources.{IsFresh}
 use Rattle.vx_sourcecore.specs.Generators.{IsBegun as IsAtBeginning}
-use Rattle.vx_sourcecore.specs.Lines.{is_generating, is_swallowing}
+use Rattle.vx_sourcecore.specs.Lines.{is_generating, is_blackhole}
 use Rattle.vx_counts.specs.Meets.{Meets}
 use Rattle.vx_balance.specs.Balances.{Balances}
 use Rattle.vx_places.specs.declared.row.Row.{Row}
-use Rattle.vx_places.specs.Rooms.{rooms_at, held_room}
+use Rattle.vx_places.specs.Capacities.{capacities_at, held_capacity}
 use Rattle.vx_places.specs.Holding.{Holds}
 use Rattle.vx_tasks.specs.declared.task.Role.{Role}
 use Rattle.vx_tasks.specs.declared.task.Role.TheVariants.{Source, Generator, Sink, Blackhole, Transform, Merge, Unfit}
-use Rattle.vx_seats.specs.declared.seat.Seat.{Seat}
-use Rattle.vx_seats.specs.Beginning.{AreNew, HasBorneNone}
-use Rattle.vx_seats.specs.Knowing.{IsFittedTo}
-use Rattle.vx_moves.specs.Rooms.{hand_of}
+use Rattle.vx_instances.specs.declared.state.InstanceState.{InstanceState}
+use Rattle.vx_instances.specs.Beginning.{AreNew, HasNoBatches}
+use Rattle.vx_instances.specs.Knowing.{IsFittedTo}
+use Rattle.vx_moves.specs.Capacities.{held_limit_of}
 use Rattle.vx_hub.specs.Standing.{AreSources, AreMergers, merges}
-use Rattle.vx_hub.specs.declared.making.Room.{Room}
+use Rattle.vx_hub.specs.declared.making.Allocated.{Allocated}
 use Rattle.vx_hub.specs.declared.parts.Named.{Named}
 
--- a seat begins for a component of a plan, but for its task
-pub record IsBegun {P : Type 0} (plan : Plan) (seat : Seat P) (c : Component) : Type 0 where
-  pub fitted : IsFittedTo seat c
-  pub outlet : seat.outlet ≡ map (reader_numbers plan c.name) (counting 0 (length (port_names c)))
-  pub facts : AreNew seat.facts
-  pub progress : HasBorneNone seat.progress (acknowledged plan c.name)
-  pub counts : (i : ℕ) → Meets i [] seat.counts.tally
+-- a state begins for a component of a plan, but for its task
+pub record IsBegun {P : Type 0} (plan : Plan) (state : InstanceState P) (c : Component) : Type 0 where
+  pub fitted : IsFittedTo state c
+  pub outlet : state.outlet ≡ map (reader_numbers plan c.name) (counting 0 (length (port_names c)))
+  pub facts : AreNew state.facts
+  pub progress : HasNoBatches state.progress (acknowledged plan c.name)
+  pub counts : (i : ℕ) → Meets i [] state.counts.tally
 
 -- a source begins for the lines of a component, and has the codec by which that decodes them
 pub record IsSourceFor (settings : Settings) (core : SourceCore) : Type 0 where
@@ -58,7 +58,7 @@ pub record IsGeneratorFor (settings : Settings) (maker : Maker) : Type 0 where
 
 -- whether settings are those of what works with a port, makes its lines itself, or writes nothing
 abbrev pub is_working : Settings → Bool
-is_working settings = has_device settings || is_generating settings || is_swallowing settings
+is_working settings = has_device settings || is_generating settings || is_blackhole settings
 
 -- what is no transform begins for some settings: what reads lines or writes by a codec works with a port, and what makes its lines or
 -- writes nothing has none
@@ -66,7 +66,7 @@ abbrev pub IsWorkerFor : Settings → Role → Type 0
 IsWorkerFor settings (Source core) = IsSourceFor settings core × (has_device settings ≡ true)
 IsWorkerFor settings (Generator maker) = IsGeneratorFor settings maker
 IsWorkerFor settings (Sink codec) = encoding settings ≡ Some codec
-IsWorkerFor settings Blackhole = is_swallowing settings ≡ true
+IsWorkerFor settings Blackhole = is_blackhole settings ≡ true
 IsWorkerFor settings (Transform picker) = ⊥
 IsWorkerFor settings Merge = ⊥
 IsWorkerFor settings Unfit = ⊥
@@ -76,7 +76,7 @@ abbrev pub IsRoleFor : Role → Component → Type 0
 IsRoleFor (Source core) c = IsSourceFor c.settings core × (has_device c.settings ≡ true)
 IsRoleFor (Generator maker) c = IsGeneratorFor c.settings maker
 IsRoleFor (Sink codec) c = encoding c.settings ≡ Some codec
-IsRoleFor Blackhole c = is_swallowing c.settings ≡ true
+IsRoleFor Blackhole c = is_blackhole c.settings ≡ true
 IsRoleFor (Transform picker) c = Picks c.settings picker × StandsFor picker []
 IsRoleFor Merge c = merges c ≡ true
 IsRoleFor Unfit c = ⊥
@@ -86,7 +86,7 @@ abbrev pub IsRoleBut : Role → Component → Type 0
 IsRoleBut (Source core) c = IsSourceFor c.settings core × (has_device c.settings ≡ true)
 IsRoleBut (Generator maker) c = IsGeneratorFor c.settings maker
 IsRoleBut (Sink codec) c = encoding c.settings ≡ Some codec
-IsRoleBut Blackhole c = is_swallowing c.settings ≡ true
+IsRoleBut Blackhole c = is_blackhole c.settings ≡ true
 IsRoleBut (Transform picker) c = ⊥
 IsRoleBut Merge c = merges c ≡ true
 IsRoleBut Unfit c = (is_transform c ≡ true) × (merges c ≡ false)
@@ -104,49 +104,49 @@ AreRoledFrom n roles pickers roled = (i : ℕ) → n ≤ i → IfSome (slice_get
 abbrev pub AreFor : {X : Type 0} → (X → Component → Type 0) → List Component → List X → Type 0
 AreFor F components xs = (i : ℕ) → IfSome (slice_get xs i) (λ x. IsSomeAnd (slice_get components i) (F x))
 
--- the rooms of some stages
-abbrev pub rooms_in : List Stage → List ℕ
-rooms_in = map (λ (stage : Stage). stage.max_events)
+-- the capacities of some stages
+abbrev pub capacities_in : List Stage → List ℕ
+capacities_in = map (λ (stage : Stage). stage.max_events)
 
 -- those of a component's buffer
-abbrev pub rooms_of : Component → List ℕ
-rooms_of c = rooms_in (stages c)
+abbrev pub capacities_of : Component → List ℕ
+capacities_of c = capacities_in (stages c)
 
--- an instance has the rooms of a component; of one that merges a keeper elsewhere has what it holds
-pub record HasRoomsOf (rows : List Row) (i : ℕ) (c : Component) : Type 0 where
-  pub stages : rooms_at rows i ≡ rooms_of c
-  pub hand : held_room rows i ≡ (if merges c then None else Some (hand_of c))
+-- an instance has the capacities of a component; of one that merges a keeper elsewhere has what it holds
+pub record HasCapacitiesOf (rows : List Row) (i : ℕ) (c : Component) : Type 0 where
+  pub stages : capacities_at rows i ≡ capacities_of c
+  pub held_limit : held_capacity rows i ≡ (if merges c then None else Some (held_limit_of c))
 
--- there is an instance of a component more, and the others have the rooms that they had
+-- there is an instance of a component more, and the others have the capacities that they had
 pub record AddsPlace (c : Component) (old new : List Row) : Type 0 where
-  pub one : HasRoomsOf new (length old) c
-  pub others : (i : ℕ) → i < length old → (rooms_at new i ≡ rooms_at old i) × (held_room new i ≡ held_room old i)
+  pub one : HasCapacitiesOf new (length old) c
+  pub others : (i : ℕ) → i < length old → (capacities_at new i ≡ capacities_at old i) × (held_capacity new i ≡ held_capacity old i)
 
 -- each that is there has those of the component in its place
-abbrev pub HaveRooms : List Component → List Row → Type 0
-HaveRooms components rows = (i : ℕ) → i < length rows → IsSomeAnd (slice_get components i) (HasRoomsOf rows i)
+abbrev pub HaveCapacities : List Component → List Row → Type 0
+HaveCapacities components rows = (i : ℕ) → i < length rows → IsSomeAnd (slice_get components i) (HasCapacitiesOf rows i)
 
 -- what a hub needs memory for is there, for each component of a plan
-pub record HasRoomFor {P : Type 0} (plan : Plan) (room : Room P) : Type 0 where
-  pub seats : AreFor (IsBegun plan) plan.components room.seats.items
-  pub seats_size : length room.seats.items ≡ length plan.components
+pub record IsAllocatedFor {P : Type 0} (plan : Plan) (room : Allocated P) : Type 0 where
+  pub states : AreFor (IsBegun plan) plan.components room.states.items
+  pub states_size : length room.states.items ≡ length plan.components
   pub roles : AreFor IsRoleBut plan.components room.roles.items
   pub roles_size : length room.roles.items ≡ length plan.components
   pub balance : Balances room.balance []
   pub holds : Holds room.places []
-  pub rooms : HaveRooms plan.components room.places
+  pub capacities : HaveCapacities plan.components room.places
   pub places_size : length room.places ≡ length plan.components
-  pub berths : length plan.components ≤ vec_capacity room.ports
+  pub port_slots : length plan.components ≤ vec_capacity room.ports
   pub none : room.ports.items ≡ []
   pub sources : AreSources plan.components (length plan.components) room.sources.items
   pub mergers : AreMergers plan.components (length plan.components) room.mergers.items
 
--- a seat has the role and the port in its place, and else is as it was
-abbrev pub IsSeated : {P : Type 0} → List (Seat P) → List Role → List (Named P) → ℕ → Seat P → Type 0
-IsSeated seats roles ports i is =
-    IsSomeAnd (slice_get seats i) (λ was. IsSomeAnd (slice_get roles i) (λ role. IsSomeAnd (slice_get ports i) (λ named.
+-- a state has the role and the port in its place, and else is as it was
+abbrev pub IsTasked : {P : Type 0} → List (InstanceState P) → List Role → List (Named P) → ℕ → InstanceState P → Type 0
+IsTasked states roles ports i is =
+    IsSomeAnd (slice_get states i) (λ was. IsSomeAnd (slice_get roles i) (λ role. IsSomeAnd (slice_get ports i) (λ named.
     is ≡ record was { task = Some (record { port = named.port; role = role }) })))
 
 -- so has each from a number on
-abbrev pub AreSeatedFrom : {P : Type 0} → ℕ → List (Seat P) → List Role → List (Named P) → List (Seat P) → Type 0
-AreSeatedFrom n seats roles ports seated = (i : ℕ) → n ≤ i → IfSome (slice_get seated i) (IsSeated seats roles ports i)
+abbrev pub AreTaskedFrom : {P : Type 0} → ℕ → List (InstanceState P) → List Role → List (Named P) → List (InstanceState P) → Type 0
+AreTaskedFrom n states roles ports tasked = (i : ℕ) → n ≤ i → IfSome (slice_get tasked i) (IsTasked states roles ports i)

@@ -9,5 +9,5 @@ pub mod Merges
 pub mod Pushing
 pub mod Remains
 pub mod Standing
-pub mod Telling
+pub mod Reporting
 pub mod Waiting

@@ -1,6 +1,6 @@
 -- What a hub is made of.
 use Rattle.std.specs.Prelude.{◌≡◌, ◌⊎◌, ℕ, true, false, List, [], ◌∷◌, Option, Some, None, IfSome}
-use Rattle.vx_ends.specs.Told.{Told, Fits}
+use Rattle.vx_ends.specs.Observation.{Observation, Fits}
 use Rattle.vx_ends.specs.declared.port_spec.PortSpec.{PortSpec}
 use Rattle.vx_plan.specs.declared.component.Component.{Component}
 use Rattle.vx_plan.specs.declared.plan.Plan.{Plan}
@@ -10,7 +10,7 @@ use Rattle.vx_pick.specs.Picks.{Picks, StandsFor}
 use Rattle.vx_record.specs.Records.{Record}
 use Rattle.vx_record.specs.Installs.{in_force, component_of}
 pub use Rattle.vx_ready.specs.Asking.{is_ported, is_judge, is_served, all_served}
-use Rattle.vx_tasks.specs.Telling.{HasCounted}
+use Rattle.vx_tasks.specs.Observing.{HasCounted}
 use Rattle.vx_record.specs.Inputs.{inputs}
 use Rattle.vx_record.specs.Places.Place.{Held}
 use Rattle.vx_record.specs.Shifts.{at}
@@ -20,26 +20,26 @@ use Rattle.vx_hub.specs.Standing.{merges}
 use Rattle.vx_hub.specs.declared.parts.Named.{Named}
 
 -- nothing went through a port, it wasn't started, its counts are 0 where they are exact, and it is made for that
-pub record IsUntouched (spec : Option PortSpec) (told : Told) : Type 0 where
-  pub made_for : Fits spec told.spec
-  pub taken : (stream : ℕ) → IfSome (told.taken stream) (λ bytes. bytes ≡ [])
-  pub given : IfSome told.given (λ bytes. bytes ≡ [])
-  pub confirmed : IfSome told.confirmed (λ positions. positions ≡ [])
-  pub ended : told.ended ≡ []
-  pub closed : told.started ≡ false
-  pub starts : HasCounted told.exact 0 told.starts
-  pub faults : HasCounted told.exact 0 told.faults
-  pub refusals : HasCounted told.exact 0 told.refusals
-  pub idles : HasCounted told.exact 0 told.idles
-  pub finishes : HasCounted told.exact 0 told.finishes
-  pub confirms : HasCounted told.exact 0 told.confirms
+pub record IsUntouched (spec : Option PortSpec) (observed : Observation) : Type 0 where
+  pub made_for : Fits spec observed.spec
+  pub taken : (stream : ℕ) → IfSome (observed.taken stream) (λ bytes. bytes ≡ [])
+  pub given : IfSome observed.given (λ bytes. bytes ≡ [])
+  pub confirmed : IfSome observed.confirmed (λ positions. positions ≡ [])
+  pub ended : observed.ended ≡ []
+  pub closed : observed.started ≡ false
+  pub starts : HasCounted observed.exact 0 observed.starts
+  pub faults : HasCounted observed.exact 0 observed.faults
+  pub refusals : HasCounted observed.exact 0 observed.refusals
+  pub idles : HasCounted observed.exact 0 observed.idles
+  pub finishes : HasCounted observed.exact 0 observed.finishes
+  pub confirms : HasCounted observed.exact 0 observed.confirms
 
 -- nothing went through the ports, and each is made for what the component in its place needs
-abbrev pub AreUntouched : {P : Type 0} → (P → Told) → (Component → Option PortSpec) → List Component → List (Named P) → Type 0
-AreUntouched told_by needs components [] = Unit {0}
-AreUntouched told_by needs [] (named ∷ rest) = ⊥
-AreUntouched told_by needs (component ∷ components) (named ∷ rest) =
-    IsUntouched (needs component) (told_by named.port) × AreUntouched told_by needs components rest
+abbrev pub AreUntouched : {P : Type 0} → (P → Observation) → (Component → Option PortSpec) → List Component → List (Named P) → Type 0
+AreUntouched observe needs components [] = Unit {0}
+AreUntouched observe needs [] (named ∷ rest) = ⊥
+AreUntouched observe needs (component ∷ components) (named ∷ rest) =
+    IsUntouched (needs component) (observe named.port) × AreUntouched observe needs components rest
 
 -- a transform that judges has what picks by its settings and saw no event; one that merges, and what is none, has nothing
 abbrev pub IsPickerFor : Component → Option Picker → Type 0

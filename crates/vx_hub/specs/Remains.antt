@@ -1,6 +1,6 @@
 -- What a hub leaves behind.
 use Rattle.std.specs.Prelude.{◌≡◌, ◌↔◌, ℕ, ◌+◌, ◌<◌, List, [], ◌∷◌, ◌++◌, length, true, false, IfSome, IsSome, IsSomeAnd, slice_get}
-use Rattle.vx_ends.specs.Told.{Told}
+use Rattle.vx_ends.specs.Observation.{Observation}
 use Rattle.vx_status.specs.declared.batch_status.BatchStatus.{BatchStatus}
 use Rattle.vx_status.specs.declared.batch_status.BatchStatus.TheVariants.{Delivered}
 use Rattle.vx_record.specs.Records.{Record}
@@ -12,9 +12,9 @@ use Rattle.vx_record.specs.Laws.{times_noticed}
 use Rattle.vx_record.specs.Lists.{places}
 use Rattle.vx_record.specs.Installs.{device_at, is_closed, is_retired}
 use Rattle.vx_record.specs.Legal.{IsLegal, IsClosed}
-use Rattle.vx_tasks.specs.Telling.{IsTold, IsToldButGiven}
-use Rattle.vx_seats.specs.declared.seat.Seat.{Seat}
-use Rattle.vx_seats.specs.Calls.{IsClosedBy}
+use Rattle.vx_tasks.specs.Observing.{IsObserved, IsObservedButGiven}
+use Rattle.vx_instances.specs.declared.state.InstanceState.{InstanceState}
+use Rattle.vx_instances.specs.Calls.{IsClosedBy}
 use Rattle.vx_hub.specs.declared.parts.Numbered.{Numbered}
 use Rattle.vx_hub.specs.Making.{AreServed}
 
@@ -45,32 +45,32 @@ abbrev pub AreNumbered : {P : Type 0} → ℕ → List (Numbered P) → Type 0
 AreNumbered first [] = Unit {0}
 AreNumbered first (n ∷ ns) = (n.instance ≡ first) × AreNumbered (first + 1) ns
 
--- each instance is at home
-abbrev pub AreHome : {P : Type 0} → List (Seat P) → Type 0
-AreHome seats = (i : ℕ) → IfSome (slice_get seats i) (λ seat. IsSome seat.task)
+-- each instance is unleased
+abbrev pub AreUnleased : {P : Type 0} → List (InstanceState P) → Type 0
+AreUnleased states = (i : ℕ) → IfSome (slice_get states i) (λ state. IsSome state.task)
 
--- a port is that of the task that was at home in a seat, which was closed
-abbrev pub IsPortOf : {P : Type 0} → (P → Told) → List (Seat P) → ℕ → Numbered P → Type 0
-IsPortOf told_by seats i n = IsSomeAnd (slice_get seats i) (λ seat. IsSomeAnd seat.task (λ task. IsClosedBy (told_by task.port) (told_by n.port)))
+-- a port is that of a state's task, which was closed
+abbrev pub IsPortOf : {P : Type 0} → (P → Observation) → List (InstanceState P) → ℕ → Numbered P → Type 0
+IsPortOf observe states i n = IsSomeAnd (slice_get states i) (λ state. IsSomeAnd state.task (λ task. IsClosedBy (observe task.port) (observe n.port)))
 
 -- each is that of the instance in its place
-abbrev pub ArePortsOf : {P : Type 0} → (P → Told) → List (Seat P) → List (Numbered P) → Type 0
-ArePortsOf told_by seats ports = (i : ℕ) → IfSome (slice_get ports i) (IsPortOf told_by seats i)
+abbrev pub ArePortsOf : {P : Type 0} → (P → Observation) → List (InstanceState P) → List (Numbered P) → Type 0
+ArePortsOf observe states ports = (i : ℕ) → IfSome (slice_get ports i) (IsPortOf observe states i)
 
 -- no port is started
-abbrev pub AreClosed : {P : Type 0} → (P → Told) → List (Numbered P) → Type 0
-AreClosed told_by [] = Unit {0}
-AreClosed told_by (n ∷ ns) = ((told_by n.port).started ≡ false) × AreClosed told_by ns
+abbrev pub AreClosed : {P : Type 0} → (P → Observation) → List (Numbered P) → Type 0
+AreClosed observe [] = Unit {0}
+AreClosed observe (n ∷ ns) = ((observe n.port).started ≡ false) × AreClosed observe ns
 
 -- each port tells what the record has of its instance
-abbrev pub AreTold : {P : Type 0} → (P → Told) → Record → List (Numbered P) → Type 0
-AreTold told_by h [] = Unit {0}
-AreTold told_by h (n ∷ ns) = IsTold (told_by n.port) h n.instance × AreTold told_by h ns
+abbrev pub AreObserved : {P : Type 0} → (P → Observation) → Record → List (Numbered P) → Type 0
+AreObserved observe h [] = Unit {0}
+AreObserved observe h (n ∷ ns) = IsObserved (observe n.port) h n.instance × AreObserved observe h ns
 
 -- so it does but for the bytes that it was given, of which it may tell more
-abbrev pub AreToldButGiven : {P : Type 0} → (P → Told) → Record → List (Numbered P) → Type 0
-AreToldButGiven told_by h [] = Unit {0}
-AreToldButGiven told_by h (n ∷ ns) = IsToldButGiven (told_by n.port) h n.instance × AreToldButGiven told_by h ns
+abbrev pub AreObservedButGiven : {P : Type 0} → (P → Observation) → Record → List (Numbered P) → Type 0
+AreObservedButGiven observe h [] = Unit {0}
+AreObservedButGiven observe h (n ∷ ns) = IsObservedButGiven (observe n.port) h n.instance × AreObservedButGiven observe h ns
 
 -- a run that ended: its record is legal and leaves nothing to do, each copy was in one place and is split or spent, each batch has
 -- its notice, and each of so many instances its end

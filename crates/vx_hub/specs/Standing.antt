@@ -1,13 +1,13 @@
 -- What a hub stands for.
 use Rattle.std.specs.Prelude.{◌≡◌, ◌≢◌, ◌<◌, ◌≤◌, ◌&&◌, ℕ, Bool, true, false, List, [], length, Some, IsSome, IfSome, IsSomeAnd, slice_get, vec_capacity}
-use Rattle.vx_ends.specs.Told.{Told}
+use Rattle.vx_ends.specs.Observation.{Observation}
 use Rattle.vx_plan.specs.Components.{is_source, is_transform}
 use Rattle.vx_plan.specs.declared.component.Component.{Component}
 use Rattle.vx_record.specs.Additions.{OnlyAdds}
 use Rattle.vx_record.specs.Installs.{in_force, started}
 use Rattle.vx_record.specs.Legal.{IsLegal}
 use Rattle.vx_record.specs.Records.{Record}
-use Rattle.vx_seats.specs.declared.seat.Seat.{Seat}
+use Rattle.vx_instances.specs.declared.state.InstanceState.{InstanceState}
 use Rattle.vx_tasks.specs.Joining.{is_joining}
 use Rattle.vx_moves.specs.Stands.{Stands}
 use Rattle.vx_ready.specs.Asking.{IsServed}
@@ -35,26 +35,26 @@ merges c = is_transform c && is_joining c.settings
 abbrev pub AreMergers : List Component → ℕ → List ℕ → Type 0
 AreMergers = AreThose merges
 
--- the hub stands for its record: its books do, what is held is lent while it is out, and all is well unless a call answered
--- `Fatal`; there is room for the ports at the end
-pub record IsHub {P : Type 0} (told_by : P → Told) (hub : Hub P) : Type 0 where
-  pub stands : Stands told_by hub.books
-  pub served : IsServed hub.books
-  pub lent : LentWhileOut hub.books
-  pub well : hub.fatal ≡ false → IsWell hub.books
-  pub fed : IsFed hub.books
-  pub away : AwayIsWell hub.books
-  pub berths : length hub.books.seats ≤ vec_capacity hub.ports
+-- the hub stands for its record: its engine's state does, what is held is lent while it is out, and all is well unless a call
+-- answered `Fatal`; there is room for the ports at the end
+pub record IsHub {P : Type 0} (observe : P → Observation) (hub : Hub P) : Type 0 where
+  pub stands : Stands observe hub.engine
+  pub served : IsServed hub.engine
+  pub lent : LentWhileOut hub.engine
+  pub well : hub.fatal ≡ false → IsWell hub.engine
+  pub fed : IsFed hub.engine
+  pub away : AwayIsWell hub.engine
+  pub port_slots : length hub.engine.states ≤ vec_capacity hub.ports
   pub none : hub.ports.items ≡ []
-  pub sources : AreSources hub.books.run.plan.components (length hub.books.seats) hub.sources.items
-  pub mergers : AreMergers hub.books.run.plan.components (length hub.books.seats) hub.mergers.items
+  pub sources : AreSources hub.engine.run.plan.components (length hub.engine.states) hub.sources.items
+  pub mergers : AreMergers hub.engine.run.plan.components (length hub.engine.states) hub.mergers.items
 
--- a seat has the task that it had, or still none
-abbrev pub SameTask : {P : Type 0} → Seat P → Seat P → Type 0
+-- a state has the task that it had, or still none
+abbrev pub SameTask : {P : Type 0} → InstanceState P → InstanceState P → Type 0
 SameTask was is = is.task ≡ was.task
 
 -- so has each but that of one instance
-abbrev pub OthersKeep : {P : Type 0} → ℕ → List (Seat P) → List (Seat P) → Type 0
+abbrev pub OthersKeep : {P : Type 0} → ℕ → List (InstanceState P) → List (InstanceState P) → Type 0
 OthersKeep i old new = (j : ℕ) → j ≢ i → IfSome (slice_get new j) (λ is. IsSomeAnd (slice_get old j) (λ was. SameTask was is))
 
 -- some entries were added to a record, of any kind

@@ -4,21 +4,21 @@ ghost use Rattle.vx_plan.specs.Numbers.{reader_numbers};
 ghost use Rattle.vx_record.specs.Copies.{counting};
 ghost use Rattle.vx_plan.specs.Components.{port_names, sink_stages, batch_max_events, batch_timeout};
 ghost use Rattle.vx_plan.specs.Options.{file_read, decoding, reading_interval, type_name};
-ghost use Rattle.vx_seats.specs.Beginning.{AreNew};
-ghost use Rattle.vx_seats.specs.Knowing.{batching_of, schedule_of};
+ghost use Rattle.vx_instances.specs.Beginning.{AreNew};
+ghost use Rattle.vx_instances.specs.Knowing.{batching_of, schedule_of};
 ghost use Rattle.vx_hub.specs.Making.{is_served, all_served};
-ghost use Rattle.vx_moves.specs.Rooms.{hand_of};
-ghost use Rattle.vx_hub.specs.Beginning.{IsBegun, IsSourceFor, IsRoleBut, IsWorkerFor, is_working, AreFor, rooms_of, rooms_in};
+ghost use Rattle.vx_moves.specs.Capacities.{held_limit_of};
+ghost use Rattle.vx_hub.specs.Beginning.{IsBegun, IsSourceFor, IsRoleBut, IsWorkerFor, is_working, AreFor, capacities_of, capacities_in};
 
 use crate::making::merges;
 use std::alloc::Global;
 use vx_counts::Counts;
 use vx_demo::DemoSettings;
 use vx_ends::Port;
+use vx_instances::{Batching, Facts, InstanceState, Progress};
 use vx_json::Decoding;
 use vx_ledger::Outlet;
 use vx_plan::{Class, Component, Plan, Settings, StageList};
-use vx_seats::{Batching, Facts, Progress, Seat};
 use vx_sinkcore::Schedule;
 use vx_sourcecore::{Generator, Prefix, SourceCore};
 use vx_tasks::{Role, Writer};
@@ -28,34 +28,37 @@ use vx_value::{NumberList, Text, WantOfMemory};
 const MOST_INSTANCES: u64 = 0xffff_ffff;
 
 /// For how many parcels the buffer of a transform has room.
-const TRANSFORM_ROOM: usize = 100;
+const TRANSFORM_CAPACITY: usize = 100;
 
-/// The seats of the components of a plan, without tasks.
-pub(crate) fn make_seats<P: Port>(alloc: Global, plan: &Plan) -> Result<Vec<Seat<P>>, WantOfMemory>
+/// The states of the components of a plan, without tasks.
+pub(crate) fn make_states<P: Port>(
+    alloc: Global,
+    plan: &Plan,
+) -> Result<Vec<InstanceState<P>>, WantOfMemory>
     ensures begun { IfOk result
-        (λ seats. AreFor (IsBegun plan.now) plan.now.components seats.items) }
-    ensures size { IfOk result (λ seats. length seats.items ≡ length plan.now.components) }
+        (λ states. AreFor (IsBegun plan.now) plan.now.components states.items) }
+    ensures size { IfOk result (λ states. length states.items ≡ length plan.now.components) }
 {
-    let mut seats = Vec::with_capacity(alloc, plan.components.len())?;
+    let mut states = Vec::with_capacity(alloc, plan.components.len())?;
     for component in plan.components.as_slice() {
-        let seat = make_seat(alloc, plan, component)?;
-        seats.push_reserved(seat);
+        let state = make_state(alloc, plan, component)?;
+        states.push_reserved(state);
     }
-    Ok(seats)
+    Ok(states)
 }
 
-/// The seat of a component, without a task.
-fn make_seat<P: Port>(
+/// The state of a component, without a task.
+fn make_state<P: Port>(
     alloc: Global,
     plan: &Plan,
     component: &Component,
-) -> Result<Seat<P>, WantOfMemory>
-    ensures { IfOk result (λ seat. IsBegun plan.now seat component.now) }
+) -> Result<InstanceState<P>, WantOfMemory>
+    ensures { IfOk result (λ state. IsBegun plan.now state component.now) }
 {
     let name = component.name.copy(alloc)?;
     let outlet = make_outlet(alloc, plan, component)?;
     let waits = plan.acknowledged(component.name.as_str());
-    Ok(Seat {
+    Ok(InstanceState {
         name,
         class: component.class,
         device: component.settings.has_device(),
@@ -143,15 +146,15 @@ fn batching(component: &Component) -> Option<Batching>
 }
 
 /// How many parcels a transform holds at the most: those that one lease takes.
-const TRANSFORM_HAND: u32 = 64;
+const TRANSFORM_HELD_LIMIT: u32 = 64;
 
 /// How many parcels a component holds at the most: a sink those of a batch, and a transform those that one lease takes.
-pub(crate) fn hand(component: &Component) -> u32
-    ensures { result ≡ hand_of component.now }
+pub(crate) fn held_limit(component: &Component) -> u32
+    ensures { result ≡ held_limit_of component.now }
 {
     match component.class {
         Class::Source => 0,
-        Class::Transform => TRANSFORM_HAND,
+        Class::Transform => TRANSFORM_HELD_LIMIT,
         Class::Sink => most_events(&component.settings),
     }
 }
@@ -322,42 +325,45 @@ fn lines_at_once(interval: u32) -> u32
 }
 
 /// For how many parcels each stage of a component's buffer has room.
-pub(crate) fn stage_rooms(alloc: Global, component: &Component) -> Result<Vec<usize>, WantOfMemory>
-    ensures { IfOk result (λ rooms. rooms.items ≡ rooms_of component.now) }
+pub(crate) fn stage_capacities(
+    alloc: Global,
+    component: &Component,
+) -> Result<Vec<usize>, WantOfMemory>
+    ensures { IfOk result (λ capacities. capacities.items ≡ capacities_of component.now) }
 {
     match component.class {
         Class::Source => Ok(Vec::new(alloc)),
-        Class::Transform => one_room(alloc),
-        Class::Sink => sink_rooms(alloc, &component.settings),
+        Class::Transform => one_capacity(alloc),
+        Class::Sink => sink_capacities(alloc, &component.settings),
     }
 }
 
 /// For how many parcels the stage of a transform's buffer has room.
-fn one_room(alloc: Global) -> Result<Vec<usize>, WantOfMemory>
-    ensures { IfOk result (λ rooms. rooms.items ≡ 100 ∷ []) }
+fn one_capacity(alloc: Global) -> Result<Vec<usize>, WantOfMemory>
+    ensures { IfOk result (λ capacities. capacities.items ≡ 100 ∷ []) }
 {
-    let mut rooms = Vec::new(alloc);
-    rooms.push(TRANSFORM_ROOM)?;
-    Ok(rooms)
+    let mut capacities = Vec::new(alloc);
+    capacities.push(TRANSFORM_CAPACITY)?;
+    Ok(capacities)
 }
 
 /// For how many parcels each stage of a sink's buffer has room.
-fn sink_rooms(alloc: Global, settings: &Settings) -> Result<Vec<usize>, WantOfMemory>
-    ensures { IfOk result (λ rooms. rooms.items ≡ rooms_in (sink_stages settings.now)) }
+fn sink_capacities(alloc: Global, settings: &Settings) -> Result<Vec<usize>, WantOfMemory>
+    ensures { IfOk result (λ capacities. capacities.items ≡ capacities_in (sink_stages settings.now)) }
 {
     match settings.sink() {
-        Some(sink) => each_room(alloc, &sink.buffer),
+        Some(sink) => each_capacity(alloc, &sink.buffer),
         None => Ok(Vec::new(alloc)),
     }
 }
 
 /// For how many parcels each of some stages has room.
-fn each_room(alloc: Global, stages: &StageList) -> Result<Vec<usize>, WantOfMemory>
-    ensures { IfOk result (λ rooms. rooms.items ≡ rooms_in stages.now) }
+fn each_capacity(alloc: Global, stages: &StageList) -> Result<Vec<usize>, WantOfMemory>
+    ensures { IfOk result (λ capacities. capacities.items ≡ capacities_in stages.now) }
 {
-    let mut rooms = Vec::with_capacity(alloc, stages.len())?;
+    let mut capacities = Vec::with_capacity(alloc, stages.len())?;
     for stage in stages.as_slice() {
-        rooms.push_reserved(stage.max_events as usize);
+        capacities.push_reserved(stage.max_events as usize);
     }
-    Ok(rooms)
+    Ok(capacities)
 }

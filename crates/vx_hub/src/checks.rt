@@ -7,36 +7,36 @@ ghost use Rattle.vx_hub.specs.Waiting.{SomeoneChecks, ComesBy, NoneChecksBefore}
 use crate::due::sooner;
 use crate::hub::Hub;
 use vx_ends::Port;
-use vx_moves::Books;
+use vx_moves::EngineState;
 use vx_ready::checks_at;
 
 impl<P: Port> Hub<P> {
-    /// The soonest of the moments, in milliseconds, from which on instances at home that merge are to act by themselves. `None` where
-    /// none is to, or a call answered `Fatal`. It takes no memory, and looks at those instances alone.
+    /// The soonest of the moments, in milliseconds, from which on unleased instances that merge are to act by themselves. `None`
+    /// where none is to, or a call answered `Fatal`. It takes no memory, and looks at those instances alone.
     pub fn next_check(&self) -> Option<u64>
-        requires { IsHub P.told self.now }
-        ensures checks { IfSome result (SomeoneChecks self.now.books) }
-        ensures only { self.now.fatal ≡ false → NoneChecksBefore self.now.books result }
+        requires { IsHub P.observed self.now }
+        ensures checks { IfSome result (SomeoneChecks self.now.engine) }
+        ensures only { self.now.fatal ≡ false → NoneChecksBefore self.now.engine result }
         ensures sound { self.now.fatal ≡ true → result ≡ None }
     {
         if self.fatal {
             return None;
         }
-        soonest_check(&self.books, self.mergers.as_slice())
+        soonest_check(&self.engine, self.mergers.as_slice())
     }
 }
 
 /// The soonest of the moments at which some instances that merge act by themselves.
-fn soonest_check<P: Port>(books: &Books<P>, mergers: &[u32]) -> Option<u64>
-    requires stands { Stands P.told books.now }
-    requires mergers { AreMergers books.now.run.plan.components
-        (length books.now.seats) mergers.now }
-    ensures checks { IfSome result (SomeoneChecks books.now) }
-    ensures only { (k : ℕ) → IfSome (slice_get mergers.now k) (ComesBy books.now result) }
+fn soonest_check<P: Port>(engine: &EngineState<P>, mergers: &[u32]) -> Option<u64>
+    requires stands { Stands P.observed engine.now }
+    requires mergers { AreMergers engine.now.run.plan.components
+        (length engine.now.states) mergers.now }
+    ensures checks { IfSome result (SomeoneChecks engine.now) }
+    ensures only { (k : ℕ) → IfSome (slice_get mergers.now k) (ComesBy engine.now result) }
 {
     let mut soonest = None;
     for k in 0..mergers.len() {
-        soonest = sooner(soonest, checks_at(books, mergers[k]));
+        soonest = sooner(soonest, checks_at(engine, mergers[k]));
     }
     soonest
 }

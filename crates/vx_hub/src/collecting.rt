@@ -17,9 +17,9 @@ ghost use Rattle.vx_hub.specs.Collecting.{OwesNothing, IsOut, IsCollecting, IsGa
 ghost use Rattle.vx_hub.specs.Leases.{takes_first, IsUnclosed};
 
 use vx_ends::Port;
-use vx_moves::Books;
+use vx_instances::{Batching, Facts};
+use vx_moves::EngineState;
 use vx_ready::is_ending;
-use vx_seats::{Batching, Facts};
 use vx_tasks::Job;
 
 /// How many parcels one lease takes from a buffer at the most.
@@ -27,20 +27,20 @@ const TAKES: u32 = 64;
 
 /// Takes parcels for a sink that was leased at a moment, until its batch is closed, nothing is buffered, or so many were taken as
 /// one lease takes. It takes no memory.
-pub(crate) fn collect<P: Port>(books: &mut Books<P>, i: u32, now: u64)
-    requires stands { Stands P.told books.old }
-    requires served { IsServed books.old }
-    requires within { i < length books.old.seats }
-    requires collecting { IsCollecting books.old i now 0 }
-    ensures stands { Stands P.told books.new }
-    ensures served { IsServed books.new }
-    ensures collecting { IsOut books.new i now }
-    ensures only { OnlyAdds (IsTakeOf i) books.old.log books.new.log }
-    ensures leaves { Leaves books.old books.new }
-    ensures size { length books.new.seats ≡ length books.old.seats }
+pub(crate) fn collect<P: Port>(engine: &mut EngineState<P>, i: u32, now: u64)
+    requires stands { Stands P.observed engine.old }
+    requires served { IsServed engine.old }
+    requires within { i < length engine.old.states }
+    requires collecting { IsCollecting engine.old i now 0 }
+    ensures stands { Stands P.observed engine.new }
+    ensures served { IsServed engine.new }
+    ensures collecting { IsOut engine.new i now }
+    ensures only { OnlyAdds (IsTakeOf i) engine.old.log engine.new.log }
+    ensures leaves { Leaves engine.old engine.new }
+    ensures size { length engine.new.states ≡ length engine.old.states }
 {
     for taken in 0..TAKES {
-        if !take_one(books, i, now, taken) {
+        if !take_one(engine, i, now, taken) {
             return;
         }
     }
@@ -48,42 +48,42 @@ pub(crate) fn collect<P: Port>(books: &mut Books<P>, i: u32, now: u64)
 
 /// Takes parcels for a transform that was leased at a moment and has some in its buffer, until none is left there, or so many were
 /// taken as one lease takes. It takes no memory.
-pub(crate) fn take_inputs<P: Port>(books: &mut Books<P>, i: u32, now: u64)
-    requires stands { Stands P.told books.old }
-    requires served { IsServed books.old }
-    requires within { i < length books.old.seats }
-    requires fresh { length (since_lease books.old.log i) ≡ 0 }
-    requires gathering { IsGathering books.old i now }
-    requires some { is_empty (buffered books.old.log i) ≡ false }
-    ensures stands { Stands P.told books.new }
-    ensures served { IsServed books.new }
-    ensures gathering { IsGathering books.new i now }
-    ensures took { took_since books.new.log i ≡ true }
-    ensures only { OnlyAdds (IsTakeOf i) books.old.log books.new.log }
-    ensures leaves { Leaves books.old books.new }
-    ensures size { length books.new.seats ≡ length books.old.seats }
+pub(crate) fn take_inputs<P: Port>(engine: &mut EngineState<P>, i: u32, now: u64)
+    requires stands { Stands P.observed engine.old }
+    requires served { IsServed engine.old }
+    requires within { i < length engine.old.states }
+    requires fresh { length (since_lease engine.old.log i) ≡ 0 }
+    requires gathering { IsGathering engine.old i now }
+    requires some { is_empty (buffered engine.old.log i) ≡ false }
+    ensures stands { Stands P.observed engine.new }
+    ensures served { IsServed engine.new }
+    ensures gathering { IsGathering engine.new i now }
+    ensures took { took_since engine.new.log i ≡ true }
+    ensures only { OnlyAdds (IsTakeOf i) engine.old.log engine.new.log }
+    ensures leaves { Leaves engine.old engine.new }
+    ensures size { length engine.new.states ≡ length engine.old.states }
 {
     for _ in 0..TAKES {
-        if !take_input(books, i, now) {
+        if !take_input(engine, i, now) {
             return;
         }
     }
 }
 
 /// Takes one more parcel for a transform; `false` where there is none to take.
-fn take_input<P: Port>(books: &mut Books<P>, i: u32, now: u64) -> bool
-    requires stands { Stands P.told books.old }
-    requires served { IsServed books.old }
-    requires within { i < length books.old.seats }
-    requires few { length (since_lease books.old.log i) < 64 }
-    requires gathering { IsGathering books.old i now }
-    ensures took { result ≡ true → HasGatheredOne P.told i now books.old books.new }
+fn take_input<P: Port>(engine: &mut EngineState<P>, i: u32, now: u64) -> bool
+    requires stands { Stands P.observed engine.old }
+    requires served { IsServed engine.old }
+    requires within { i < length engine.old.states }
+    requires few { length (since_lease engine.old.log i) < 64 }
+    requires gathering { IsGathering engine.old i now }
+    ensures took { result ≡ true → HasGatheredOne P.observed i now engine.old engine.new }
     ensures none { result ≡ false →
-        (books.new ≡ books.old) × (is_empty (buffered books.old.log i) ≡ true) }
+        (engine.new ≡ engine.old) × (is_empty (buffered engine.old.log i) ≡ true) }
 {
-    match books.places.first_filled(i) {
+    match engine.places.first_filled(i) {
         Some(stage) => {
-            books.take(i, stage, now);
+            engine.take(i, stage, now);
             true
         }
         None => false,
@@ -91,16 +91,16 @@ fn take_input<P: Port>(books: &mut Books<P>, i: u32, now: u64) -> bool
 }
 
 /// What a sink that was leased at a moment has to do once it took what there was: it attempts its batch where that is closed.
-pub(crate) fn decide<P: Port>(books: &Books<P>, i: u32, now: u64) -> Job
-    requires stands { Stands P.told books.now }
-    requires served { IsServed books.now }
-    requires within { i < length books.now.seats }
-    requires out { IsOut books.now i now }
-    ensures given { IsGiven books.now.log i result }
+pub(crate) fn decide<P: Port>(engine: &EngineState<P>, i: u32, now: u64) -> Job
+    requires stands { Stands P.observed engine.now }
+    requires served { IsServed engine.now }
+    requires within { i < length engine.now.states }
+    requires out { IsOut engine.now i now }
+    ensures given { IsGiven engine.now.log i result }
     ensures sinks { takes_first result ≡ true }
-    ensures unclosed { IsUnclosed books.now.log i now result }
+    ensures unclosed { IsUnclosed engine.now.log i now result }
 {
-    if is_closed_out(books, i, now) {
+    if is_closed_out(engine, i, now) {
         Job::Attempt
     } else {
         Job::Collect
@@ -108,21 +108,21 @@ pub(crate) fn decide<P: Port>(books: &Books<P>, i: u32, now: u64) -> Job
 }
 
 /// Takes one more, behind so many; `false` where there is none to take.
-fn take_one<P: Port>(books: &mut Books<P>, i: u32, now: u64, taken: u32) -> bool
-    requires stands { Stands P.told books.old }
-    requires served { IsServed books.old }
-    requires within { i < length books.old.seats }
+fn take_one<P: Port>(engine: &mut EngineState<P>, i: u32, now: u64, taken: u32) -> bool
+    requires stands { Stands P.observed engine.old }
+    requires served { IsServed engine.old }
+    requires within { i < length engine.old.states }
     requires few { taken < 64 }
-    requires collecting { IsCollecting books.old i now taken }
-    ensures took { result ≡ true → HasTaken P.told i now taken books.old books.new }
-    ensures none { result ≡ false → books.new ≡ books.old }
+    requires collecting { IsCollecting engine.old i now taken }
+    ensures took { result ≡ true → HasTaken P.observed i now taken engine.old engine.new }
+    ensures none { result ≡ false → engine.new ≡ engine.old }
 {
-    if is_closed_out(books, i, now) || books.places.is_held_full(i) {
+    if is_closed_out(engine, i, now) || engine.places.is_held_full(i) {
         return false;
     }
-    match books.places.first_filled(i) {
+    match engine.places.first_filled(i) {
         Some(stage) => {
-            books.take(i, stage, now);
+            engine.take(i, stage, now);
             true
         }
         None => false,
@@ -130,21 +130,21 @@ fn take_one<P: Port>(books: &mut Books<P>, i: u32, now: u64, taken: u32) -> bool
 }
 
 /// Whether the batch that a sink holds, which is out and whose parcels are not lent, is closed at the moment of its lease.
-pub(crate) fn is_closed_out<P: Port>(books: &Books<P>, i: u32, now: u64) -> bool
-    requires stands { Stands P.told books.now }
-    requires within { i < length books.now.seats }
-    requires served { IsServed books.now }
-    requires clear { OwesNothing books.now i }
-    requires kept { IsKept books.now.places i }
-    ensures { result ≡ is_batch_closed_at books.now.log i now }
+pub(crate) fn is_closed_out<P: Port>(engine: &EngineState<P>, i: u32, now: u64) -> bool
+    requires stands { Stands P.observed engine.now }
+    requires within { i < length engine.now.states }
+    requires served { IsServed engine.now }
+    requires clear { OwesNothing engine.now i }
+    requires kept { IsKept engine.now.places i }
+    ensures { result ≡ is_batch_closed_at engine.now.log i now }
 {
-    let held = count_held(books, i);
-    let seat = books.seats.get(i);
-    let due = is_due(seat.batching, &seat.facts, held, now);
+    let held = count_held(engine, i);
+    let state = engine.states.get(i);
+    let due = is_due(state.batching, &state.facts, held, now);
     if held == 0 {
         return false;
     }
-    due || is_last(books, i)
+    due || is_last(engine, i)
 }
 
 /// Whether so many parcels are as many as a batch may have, or the oldest of them has waited long enough, or an attempt of them failed.
@@ -163,30 +163,30 @@ fn is_due(batching: Option<Batching>, facts: &Facts, held: usize, now: u64) -> b
 }
 
 /// Whether no parcel can follow those that an instance holds.
-fn is_last<P: Port>(books: &Books<P>, i: u32) -> bool
-    requires stands { Stands P.told books.now }
-    requires within { i < length books.now.seats }
-    requires served { IsServed books.now }
-    ensures { result ≡ is_last_batch books.now.log i }
+fn is_last<P: Port>(engine: &EngineState<P>, i: u32) -> bool
+    requires stands { Stands P.observed engine.now }
+    requires within { i < length engine.now.states }
+    requires served { IsServed engine.now }
+    ensures { result ≡ is_last_batch engine.now.log i }
 {
-    is_unbuffered(books, i) && is_ending(books, i)
+    is_unbuffered(engine, i) && is_ending(engine, i)
 }
 
 /// Whether no stage of an instance's buffer has a parcel.
-fn is_unbuffered<P: Port>(books: &Books<P>, i: u32) -> bool
-    requires stands { Stands P.told books.now }
-    requires within { i < length books.now.seats }
-    ensures { result ≡ is_empty (buffered books.now.log i) }
+fn is_unbuffered<P: Port>(engine: &EngineState<P>, i: u32) -> bool
+    requires stands { Stands P.observed engine.now }
+    requires within { i < length engine.now.states }
+    ensures { result ≡ is_empty (buffered engine.now.log i) }
 {
-    books.places.is_empty_buffer(i)
+    engine.places.is_empty_buffer(i)
 }
 
 /// How many parcels an instance holds, which are not lent.
-fn count_held<P: Port>(books: &Books<P>, i: u32) -> usize
-    requires stands { Stands P.told books.now }
-    requires within { i < length books.now.seats }
-    requires kept { IsKept books.now.places i }
-    ensures { result ≡ length (held books.now.log i) }
+fn count_held<P: Port>(engine: &EngineState<P>, i: u32) -> usize
+    requires stands { Stands P.observed engine.now }
+    requires within { i < length engine.now.states }
+    requires kept { IsKept engine.now.places i }
+    ensures { result ≡ length (held engine.now.log i) }
 {
-    books.places.holds(i)
+    engine.places.holds(i)
 }

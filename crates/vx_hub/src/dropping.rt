@@ -5,15 +5,15 @@ ghost use Rattle.vx_record.specs.Stages.{stages_of, drops_newest as drops_newest
 ghost use Rattle.vx_moves.specs.Stands.{Stands};
 
 use vx_ends::Port;
-use vx_moves::Books;
+use vx_moves::EngineState;
 use vx_plan::{Class, Component, Settings, StageList, WhenFull};
 
 /// Whether the last stage of an instance's buffer drops what comes while it is full.
-pub(crate) fn drops_newest<P: Port>(books: &Books<P>, target: u32) -> bool
-    requires stands { Stands P.told books.now }
-    ensures { result ≡ last_drops_of (stages_of books.now.log target) }
+pub(crate) fn drops_newest<P: Port>(engine: &EngineState<P>, target: u32) -> bool
+    requires stands { Stands P.observed engine.now }
+    ensures { result ≡ last_drops_of (stages_of engine.now.log target) }
 {
-    match books.run.plan.components.get(target as usize) {
+    match engine.run.plan.components.get(target as usize) {
         Some(component) => does_component(component),
         None => false,
     }

@@ -7,35 +7,35 @@ ghost use Rattle.vx_hub.specs.Waiting.{IsSoonest, sooner as sooner_of};
 
 use crate::hub::Hub;
 use vx_ends::Port;
-use vx_moves::Books;
+use vx_moves::EngineState;
 use vx_ready::waits_until;
 
 impl<P: Port> Hub<P> {
-    /// The soonest of the moments, in milliseconds, for which instances at home wait: a source to be read again, a sink to write a batch
+    /// The soonest of the moments, in milliseconds, for which unleased instances wait: a source to be read again, a sink to write a batch
     /// that will be old enough, or one that failed once more. `None` exactly where none waits, or a call answered `Fatal`, or the run was
     /// given up. It takes no memory, and looks at each instance, so it is for where nobody has work.
     pub fn due(&self) -> Option<u64>
-        requires { IsHub P.told self.now }
+        requires { IsHub P.observed self.now }
         ensures soonest { self.now.fatal ≡ false →
-            IsSoonest self.now.books (length self.now.books.seats) result }
+            IsSoonest self.now.engine (length self.now.engine.states) result }
         ensures sound { self.now.fatal ≡ true → result ≡ None }
     {
         if self.fatal {
             return None;
         }
-        soonest(&self.books)
+        soonest(&self.engine)
     }
 }
 
-/// The soonest of the moments for which instances at home wait.
-fn soonest<P: Port>(books: &Books<P>) -> Option<u64>
-    requires stands { Stands P.told books.now }
-    requires served { IsServed books.now }
-    ensures { IsSoonest books.now (length books.now.seats) result }
+/// The soonest of the moments for which unleased instances wait.
+fn soonest<P: Port>(engine: &EngineState<P>) -> Option<u64>
+    requires stands { Stands P.observed engine.now }
+    requires served { IsServed engine.now }
+    ensures { IsSoonest engine.now (length engine.now.states) result }
 {
     let mut soonest = None;
-    for i in 0..books.seats.len() as u32 {
-        soonest = sooner(soonest, waits_until(books, i));
+    for i in 0..engine.states.len() as u32 {
+        soonest = sooner(soonest, waits_until(engine, i));
     }
     soonest
 }

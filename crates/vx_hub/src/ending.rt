@@ -9,62 +9,62 @@ ghost use Rattle.vx_record.specs.Lists.{is_bare as is_bare_at};
 ghost use Rattle.vx_record.specs.Turns.{is_out};
 ghost use Rattle.vx_moves.specs.Stands.{Stands};
 ghost use Rattle.vx_ready.specs.Asking.{IsServed};
-ghost use Rattle.vx_seats.specs.Staying.{EachSeat};
+ghost use Rattle.vx_instances.specs.Staying.{EachState};
 ghost use Rattle.vx_hub.specs.Standing.{IsHub, IsWell, SameTask};
 ghost use Rattle.vx_hub.specs.Ending.{IsOver, NoneRetires, IsClosing, GivesUp, AreGivenUp, ClosesDown, GivesUpAt, GivesUpBelow};
 
 use crate::hub::Hub;
 use vx_ends::Port;
-use vx_moves::Books;
+use vx_moves::EngineState;
 use vx_ready::{has_device, is_done, is_settled};
 use vx_record::AbandonCause;
 
 impl<P: Port> Hub<P> {
-    /// Gives the run up: spends every copy that stands at an instance at home as abandoned, and closes its port, if it has one, for
-    /// good. An instance that is out is given up when it lands. It takes no memory.
+    /// Gives the run up: spends every copy that stands at an unleased instance as abandoned, and closes its port, if it has one,
+    /// for good. An instance that is out is given up when it lands. It takes no memory.
     pub fn abandon(&mut self, cause: AbandonCause)
-        requires hub { IsHub P.told self.old }
-        requires going { cause_of self.old.books.log ≡ None }
-        requires reason { HasReason self.old.books.log cause }
-        ensures hub { IsHub P.told self.new }
-        ensures cause { cause_of self.new.books.log ≡ Some cause }
-        ensures only { OnlyAdds (GivesUp cause) self.old.books.log self.new.books.log }
-        ensures up { AreGivenUp self.new.books.log }
-        ensures rest { self.new ≡ record self.old { books = self.new.books } }
-        ensures short { self.new.books.run.short ≡ self.old.books.run.short }
-        ensures latest { self.new.books.run.latest ≡ self.old.books.run.latest }
+        requires hub { IsHub P.observed self.old }
+        requires going { cause_of self.old.engine.log ≡ None }
+        requires reason { HasReason self.old.engine.log cause }
+        ensures hub { IsHub P.observed self.new }
+        ensures cause { cause_of self.new.engine.log ≡ Some cause }
+        ensures only { OnlyAdds (GivesUp cause) self.old.engine.log self.new.engine.log }
+        ensures up { AreGivenUp self.new.engine.log }
+        ensures rest { self.new ≡ record self.old { engine = self.new.engine } }
+        ensures short { self.new.engine.run.out_of_memory ≡ self.old.engine.run.out_of_memory }
+        ensures latest { self.new.engine.run.latest ≡ self.old.engine.run.latest }
     {
-        self.books.abandon(cause);
-        give_up_all(&mut self.books);
+        self.engine.abandon(cause);
+        give_up_all(&mut self.engine);
     }
 
-    /// Ends the first instance at home whose port, if it has one, is closed for good and that has nothing more to do, or at which
+    /// Ends the first unleased instance whose port, if it has one, is closed for good and that has nothing more to do, or at which
     /// nothing stands where the run was given up. Its port stays with it until the hub ends. `None` where no instance may end;
     /// behind a call that answered `Fatal`, until the run is given up, it may also come where one may.
     pub fn retire(&mut self) -> Option<u32>
-        requires hub { IsHub P.told self.old }
-        ensures hub { IsHub P.told self.new }
-        ensures some { IfSome result (λ i. MayRetire self.old.books.log i) }
-        ensures noted { IfSome result (λ i. self.new.books.log ≡ Retired i ∷ self.old.books.log) }
-        ensures none { (self.old.fatal ≡ false) ⊎ (abandoned self.old.books.log ≡ true) →
-            IfNone result (NoneRetires self.old.books.log) }
-        ensures run { self.new.books.run ≡ self.old.books.run }
-        ensures tasks { EachSeat SameTask self.old.books.seats self.new.books.seats }
-        ensures rest { self.new ≡ record self.old { books = self.new.books } }
+        requires hub { IsHub P.observed self.old }
+        ensures hub { IsHub P.observed self.new }
+        ensures some { IfSome result (λ i. MayRetire self.old.engine.log i) }
+        ensures noted { IfSome result (λ i. self.new.engine.log ≡ Retired i ∷ self.old.engine.log) }
+        ensures none { (self.old.fatal ≡ false) ⊎ (abandoned self.old.engine.log ≡ true) →
+            IfNone result (NoneRetires self.old.engine.log) }
+        ensures run { self.new.engine.run ≡ self.old.engine.run }
+        ensures tasks { EachState SameTask self.old.engine.states self.new.engine.states }
+        ensures rest { self.new ≡ record self.old { engine = self.new.engine } }
         ensures unchanged { IfNone result (self.new ≡ self.old) }
     {
-        let i = first_over(&self.books)?;
-        self.books.retire(i);
+        let i = first_over(&self.engine)?;
+        self.engine.retire(i);
         Some(i)
     }
 
     /// Whether each instance ended.
     pub fn over(&self) -> bool
-        requires hub { IsHub P.told self.now }
-        ensures { IsTrue result ↔ IsOver self.now.books.log }
+        requires hub { IsHub P.observed self.now }
+        ensures { IsTrue result ↔ IsOver self.now.engine.log }
     {
-        for i in 0..self.books.seats.len() as u32 {
-            if !self.books.seats.get(i).facts.retired {
+        for i in 0..self.engine.states.len() as u32 {
+            if !self.engine.states.get(i).facts.retired {
                 return false;
             }
         }
@@ -72,60 +72,60 @@ impl<P: Port> Hub<P> {
     }
 }
 
-/// Gives up each instance at home.
-fn give_up_all<P: Port>(books: &mut Books<P>)
-    requires stands { Stands P.told books.old }
-    requires served { IsServed books.old }
-    requires over { abandoned books.old.log ≡ true }
-    ensures { GivesUpBelow P.told (length books.old.seats) books.old books.new }
+/// Gives up each unleased instance.
+fn give_up_all<P: Port>(engine: &mut EngineState<P>)
+    requires stands { Stands P.observed engine.old }
+    requires served { IsServed engine.old }
+    requires over { abandoned engine.old.log ≡ true }
+    ensures { GivesUpBelow P.observed (length engine.old.states) engine.old engine.new }
 {
-    for i in 0..books.seats.len() as u32 {
-        give_up_at(books, i);
+    for i in 0..engine.states.len() as u32 {
+        give_up_at(engine, i);
     }
 }
 
-/// Gives up what stands at an instance, and closes its port, if it has one, for good, if the instance is at home.
-pub(crate) fn give_up_at<P: Port>(books: &mut Books<P>, i: u32)
-    requires stands { Stands P.told books.old }
-    requires within { i < length books.old.seats }
-    requires served { IsServed books.old }
-    requires over { abandoned books.old.log ≡ true }
-    ensures { GivesUpAt P.told i books.old books.new }
+/// Gives up what stands at an instance, and closes its port, if it has one, for good, if the instance is unleased.
+pub(crate) fn give_up_at<P: Port>(engine: &mut EngineState<P>, i: u32)
+    requires stands { Stands P.observed engine.old }
+    requires within { i < length engine.old.states }
+    requires served { IsServed engine.old }
+    requires over { abandoned engine.old.log ≡ true }
+    ensures { GivesUpAt P.observed i engine.old engine.new }
 {
-    if !books.seats.get(i).task.is_some() {
+    if !engine.states.get(i).task.is_some() {
         return;
     }
-    books.give_up(i);
-    close_down(books, i);
+    engine.give_up(i);
+    close_down(engine, i);
 }
 
 /// Closes the port of an instance for good, if it has one and that wasn't done before.
-fn close_down<P: Port>(books: &mut Books<P>, i: u32)
-    requires stands { Stands P.told books.old }
-    requires within { i < length books.old.seats }
-    requires home { is_out books.old.log i ≡ false }
-    requires served { IsServed books.old }
-    requires over { abandoned books.old.log ≡ true }
-    ensures { ClosesDown P.told i books.old books.new }
+fn close_down<P: Port>(engine: &mut EngineState<P>, i: u32)
+    requires stands { Stands P.observed engine.old }
+    requires within { i < length engine.old.states }
+    requires unleased { is_out engine.old.log i ≡ false }
+    requires served { IsServed engine.old }
+    requires over { abandoned engine.old.log ≡ true }
+    ensures { ClosesDown P.observed i engine.old engine.new }
 {
-    if !has_device(books, i) || books.seats.get(i).facts.closed {
+    if !has_device(engine, i) || engine.states.get(i).facts.closed {
         return;
     }
-    books.seats.shut(i);
-    books.close(i);
+    engine.states.shut(i);
+    engine.close(i);
 }
 
 /// The first instance that may end.
-fn first_over<P: Port>(books: &Books<P>) -> Option<u32>
-    requires stands { Stands P.told books.now }
-    requires served { IsServed books.now }
-    ensures within { IfSome result (λ i. i < length books.now.seats) }
-    ensures may { IfSome result (λ i. MayRetire books.now.log i) }
-    ensures none { IsWell books.now ⊎ (abandoned books.now.log ≡ true) →
-        IfNone result (NoneRetires books.now.log) }
+fn first_over<P: Port>(engine: &EngineState<P>) -> Option<u32>
+    requires stands { Stands P.observed engine.now }
+    requires served { IsServed engine.now }
+    ensures within { IfSome result (λ i. i < length engine.now.states) }
+    ensures may { IfSome result (λ i. MayRetire engine.now.log i) }
+    ensures none { IsWell engine.now ⊎ (abandoned engine.now.log ≡ true) →
+        IfNone result (NoneRetires engine.now.log) }
 {
-    for i in 0..books.seats.len() as u32 {
-        if may_retire(books, i) {
+    for i in 0..engine.states.len() as u32 {
+        if may_retire(engine, i) {
             return Some(i);
         }
     }
@@ -133,51 +133,51 @@ fn first_over<P: Port>(books: &Books<P>) -> Option<u32>
 }
 
 /// Whether an instance may end.
-fn may_retire<P: Port>(books: &Books<P>, i: u32) -> bool
-    requires stands { Stands P.told books.now }
-    requires within { i < length books.now.seats }
-    requires served { IsServed books.now }
-    ensures may { IsTrue result → MayRetire books.now.log i }
-    ensures not { result ≡ false → IsWell books.now ⊎ (abandoned books.now.log ≡ true) →
-        MayRetire books.now.log i → ⊥ }
+fn may_retire<P: Port>(engine: &EngineState<P>, i: u32) -> bool
+    requires stands { Stands P.observed engine.now }
+    requires within { i < length engine.now.states }
+    requires served { IsServed engine.now }
+    ensures may { IsTrue result → MayRetire engine.now.log i }
+    ensures not { result ≡ false → IsWell engine.now ⊎ (abandoned engine.now.log ≡ true) →
+        MayRetire engine.now.log i → ⊥ }
 {
-    if !is_closing(books, i) {
+    if !is_closing(engine, i) {
         return false;
     }
-    if books.run.abandoned.is_some() {
-        return is_bare(books, i);
+    if engine.run.abandoned.is_some() {
+        return is_bare(engine, i);
     }
-    if !is_settled(books, i) {
+    if !is_settled(engine, i) {
         return false;
     }
-    is_done(books, i)
+    is_done(engine, i)
 }
 
-/// Whether nothing stands at an instance at home.
-fn is_bare<P: Port>(books: &Books<P>, i: u32) -> bool
-    requires stands { Stands P.told books.now }
-    requires within { i < length books.now.seats }
-    requires home { is_out books.now.log i ≡ false }
-    ensures { result ≡ is_bare_at books.now.log i }
+/// Whether nothing stands at an unleased instance.
+fn is_bare<P: Port>(engine: &EngineState<P>, i: u32) -> bool
+    requires stands { Stands P.observed engine.now }
+    requires within { i < length engine.now.states }
+    requires unleased { is_out engine.now.log i ≡ false }
+    ensures { result ≡ is_bare_at engine.now.log i }
 {
-    if books.merges(i) {
-        books.places.is_clear(i) && books.keeps_none(i)
+    if engine.merges(i) {
+        engine.places.is_clear(i) && engine.keeps_none(i)
     } else {
-        books.places.is_bare(i)
+        engine.places.is_bare(i)
     }
 }
 
-/// Whether the task of an instance is at home, its port, if it has one, is closed for good, and it hasn't ended.
-fn is_closing<P: Port>(books: &Books<P>, i: u32) -> bool
-    requires stands { Stands P.told books.now }
-    requires within { i < length books.now.seats }
-    requires served { IsServed books.now }
-    ensures yes { IsTrue result → IsClosing books.now i }
-    ensures no { result ≡ false → IsClosing books.now i → ⊥ }
+/// Whether the task of an instance is unleased, its port, if it has one, is closed for good, and it hasn't ended.
+fn is_closing<P: Port>(engine: &EngineState<P>, i: u32) -> bool
+    requires stands { Stands P.observed engine.now }
+    requires within { i < length engine.now.states }
+    requires served { IsServed engine.now }
+    ensures yes { IsTrue result → IsClosing engine.now i }
+    ensures no { result ≡ false → IsClosing engine.now i → ⊥ }
 {
-    let seat = books.seats.get(i);
-    if !seat.task.is_some() || seat.facts.retired {
+    let state = engine.states.get(i);
+    if !state.task.is_some() || state.facts.retired {
         return false;
     }
-    seat.facts.closed || !has_device(books, i)
+    state.facts.closed || !has_device(engine, i)
 }

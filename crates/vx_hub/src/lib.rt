@@ -18,8 +18,8 @@ mod parts;
 mod pushing;
 mod ready;
 mod remains;
+mod reporting;
 mod slots;
-mod telling;
 
 pub use fatal::Fatal;
 pub use hub::Hub;

@@ -4,30 +4,30 @@ ghost use Rattle.vx_plan.specs.Accepted.{IsPlan};
 ghost use Rattle.vx_tasks.specs.Joining.{is_joining};
 ghost use Rattle.vx_record.specs.Wirings.{begun};
 ghost use Rattle.vx_places.specs.Holding.{Holds};
-ghost use Rattle.vx_hub.specs.Beginning.{AddsPlace, HasRoomFor, HaveRooms, AreRoledFrom, AreSeatedFrom};
+ghost use Rattle.vx_hub.specs.Beginning.{AddsPlace, IsAllocatedFor, HaveCapacities, AreRoledFrom, AreTaskedFrom};
 ghost use Rattle.vx_plan.specs.Ports.{port_of};
 ghost use Rattle.vx_hub.specs.Making.{all_served, AreUntouched, ArePickers, AreSlots};
 ghost use Rattle.vx_hub.specs.Standing.{AreThose, IsHub, merges as merges_by};
 ghost use Rattle.vx_hub.specs.Kinds.{kind_test};
 
-use crate::beginning::{hand, make_roles, make_seats, stage_rooms};
+use crate::beginning::{held_limit, make_roles, make_states, stage_capacities};
 use crate::hub::Hub;
 use crate::parts::{Named, NewRefused, Numbered, Parts};
 use std::alloc::Global;
 use vx_balance::Balance;
 use vx_ends::Port;
 use vx_history::History;
-use vx_moves::{Books, Run};
+use vx_instances::{InstanceState, InstanceStates};
+use vx_moves::{EngineState, Run};
 use vx_pick::Picker;
 use vx_places::Places;
 use vx_plan::{Class, Component, Plan, Settings};
-use vx_seats::{Seat, Seats};
 use vx_tasks::{Role, Task};
 use vx_value::WantOfMemory;
 
 /// What a hub needs memory for.
-pub struct Room<P> {
-    pub seats: Vec<Seat<P>>,
+pub struct Allocated<P> {
+    pub states: Vec<InstanceState<P>>,
     pub roles: Vec<Role>,
     pub balance: Balance,
     pub ports: Vec<Numbered<P>>,
@@ -44,20 +44,20 @@ impl<P: Port> Hub<P> {
     pub fn new(alloc: Global, parts: Parts<P>, now: u64) -> Result<Self, NewRefused<P>>
         requires ports { length parts.ports ≡ length parts.plan.components }
         requires few { length parts.plan.components < 2 ^ 32 }
-        requires untouched { AreUntouched P.told
+        requires untouched { AreUntouched P.observed
             (port_of parts.once parts.plan.global.data_dir) parts.plan.components parts.ports }
         requires accepted { IsPlan parts.plan }
         requires served { all_served parts.plan.components ≡ true }
         requires pickers { ArePickers parts.plan.components parts.pickers }
         requires keepers { AreSlots parts.plan.components parts.keepers }
-        ensures hub { IfOk result (IsHub P.told) }
-        ensures first { IfOk result (λ hub. hub.books.log ≡ begun parts.plan parts.once now) }
+        ensures hub { IfOk result (IsHub P.observed) }
+        ensures first { IfOk result (λ hub. hub.engine.log ≡ begun parts.plan parts.once now) }
         ensures sound { IfOk result (λ hub. hub.fatal ≡ false) }
-        ensures fed { IfOk result (λ hub. hub.books.run.short ≡ false) }
-        ensures latest { IfOk result (λ hub. hub.books.run.latest ≡ now) }
+        ensures fed { IfOk result (λ hub. hub.engine.run.out_of_memory ≡ false) }
+        ensures latest { IfOk result (λ hub. hub.engine.run.latest ≡ now) }
         ensures refused { IfErr result (λ refused. refused.parts ≡ parts) }
     {
-        match make_room(alloc, &parts.plan) {
+        match allocate(alloc, &parts.plan) {
             Ok(room) => Ok(begin(alloc, parts, room, now)),
             Err(WantOfMemory) => Err(NewRefused { parts }),
         }
@@ -65,20 +65,20 @@ impl<P: Port> Hub<P> {
 }
 
 /// What a hub needs memory for, for the instances of a plan.
-fn make_room<P: Port>(alloc: Global, plan: &Plan) -> Result<Room<P>, WantOfMemory>
+fn allocate<P: Port>(alloc: Global, plan: &Plan) -> Result<Allocated<P>, WantOfMemory>
     requires served { all_served plan.now.components ≡ true }
     requires few { length plan.now.components < 2 ^ 32 }
-    ensures { IfOk result (HasRoomFor plan.now) }
+    ensures { IfOk result (IsAllocatedFor plan.now) }
 {
-    let seats = make_seats(alloc, plan)?;
+    let states = make_states(alloc, plan)?;
     let roles = make_roles(alloc, plan)?;
     let balance = Balance::new(alloc)?;
     let ports = Vec::with_capacity(alloc, plan.components.len())?;
     let sources = numbers_of(alloc, plan, Kind::Source)?;
     let mergers = numbers_of(alloc, plan, Kind::Merger)?;
     let places = make_places(alloc, plan)?;
-    Ok(Room {
-        seats,
+    Ok(Allocated {
+        states,
         roles,
         balance,
         ports,
@@ -142,7 +142,7 @@ fn joins(settings: &Settings) -> bool
 /// The places of the instances of a plan, at which nothing stands.
 fn make_places(alloc: Global, plan: &Plan) -> Result<Places, WantOfMemory>
     ensures holds { IfOk result (λ places. Holds places []) }
-    ensures rooms { IfOk result (HaveRooms plan.now.components) }
+    ensures capacities { IfOk result (HaveCapacities plan.now.components) }
     ensures size { IfOk result (λ places. length places ≡ length plan.now.components) }
 {
     let mut places = Places::new(alloc);
@@ -165,29 +165,29 @@ fn add_place(alloc: Global, places: &mut Places, component: &Component) -> Resul
     ensures adds { OnOk result (AddsPlace component.now places.old places.new) }
     ensures unchanged { OnErr result (places.new ≡ places.old) }
 {
-    let rooms = stage_rooms(alloc, component)?;
+    let capacities = stage_capacities(alloc, component)?;
     if merges(component) {
-        return places.add_keeper(alloc, rooms.as_slice());
+        return places.add_keeper(alloc, capacities.as_slice());
     }
-    places.add(alloc, rooms.as_slice(), hand(component) as usize)
+    places.add(alloc, capacities.as_slice(), held_limit(component) as usize)
 }
 
 /// The hub of some parts, whose record has their install. It takes no memory.
-fn begin<P: Port>(alloc: Global, parts: Parts<P>, room: Room<P>, now: u64) -> Hub<P>
+fn begin<P: Port>(alloc: Global, parts: Parts<P>, room: Allocated<P>, now: u64) -> Hub<P>
     requires ports { length parts.ports ≡ length parts.plan.components }
     requires few { length parts.plan.components < 2 ^ 32 }
-    requires untouched { AreUntouched P.told
+    requires untouched { AreUntouched P.observed
         (port_of parts.once parts.plan.global.data_dir) parts.plan.components parts.ports }
     requires accepted { IsPlan parts.plan }
     requires served { all_served parts.plan.components ≡ true }
     requires pickers { ArePickers parts.plan.components parts.pickers }
     requires keepers { AreSlots parts.plan.components parts.keepers }
-    requires room { HasRoomFor parts.plan room }
-    ensures hub { IsHub P.told result }
-    ensures first { result.books.log ≡ begun parts.plan parts.once now }
+    requires room { IsAllocatedFor parts.plan room }
+    ensures hub { IsHub P.observed result }
+    ensures first { result.engine.log ≡ begun parts.plan parts.once now }
     ensures sound { result.fatal ≡ false }
-    ensures fed { result.books.run.short ≡ false }
-    ensures latest { result.books.run.latest ≡ now }
+    ensures fed { result.engine.run.out_of_memory ≡ false }
+    ensures latest { result.engine.run.latest ≡ now }
 {
     let Parts {
         plan,
@@ -196,36 +196,40 @@ fn begin<P: Port>(alloc: Global, parts: Parts<P>, room: Room<P>, now: u64) -> Hu
         pickers,
         keepers,
     } = parts;
-    let Room {
-        seats,
+    let Allocated {
+        states,
         roles,
         balance,
-        ports: berths,
+        ports: port_slots,
         places,
         sources,
         mergers,
     } = room;
-    let seats = Seats::new(seat_all(seats, role_all(roles, pickers.into_vec()), ports.into_vec()));
+    let states = InstanceStates::new(give_tasks(
+        states,
+        role_all(roles, pickers.into_vec()),
+        ports.into_vec(),
+    ));
     let mut log = History::new();
     log.note(&(&plan, once, now));
     let run = Run {
         plan,
         abandoned: None,
         latest: now,
-        short: false,
+        out_of_memory: false,
     };
     Hub {
         alloc,
-        books: Books {
+        engine: EngineState {
             places,
             keepers: keepers.into_vec(),
-            seats,
+            states,
             balance,
             run,
             log,
         },
         fatal: false,
-        ports: berths,
+        ports: port_slots,
         sources,
         mergers,
     }
@@ -255,23 +259,27 @@ fn pick_by(roles: &mut Vec<Role>, i: usize, picker: Picker)
     roles[i] = Role::Transform(picker);
 }
 
-/// Gives each seat the role and the port in its place, the last first. It takes no memory.
-fn seat_all<P: Port>(seats: Vec<Seat<P>>, roles: Vec<Role>, ports: Vec<Named<P>>) -> Vec<Seat<P>>
-    requires roles { length roles.items ≡ length seats.items }
-    requires ports { length ports.items ≡ length seats.items }
-    ensures size { length result.items ≡ length seats.items }
-    ensures seated { AreSeatedFrom 0 seats.items roles.items ports.items result.items }
+/// Gives each state the role and the port in its place, the last first. It takes no memory.
+fn give_tasks<P: Port>(
+    states: Vec<InstanceState<P>>,
+    roles: Vec<Role>,
+    ports: Vec<Named<P>>,
+) -> Vec<InstanceState<P>>
+    requires roles { length roles.items ≡ length states.items }
+    requires ports { length ports.items ≡ length states.items }
+    ensures size { length result.items ≡ length states.items }
+    ensures tasked { AreTaskedFrom 0 states.items roles.items ports.items result.items }
 {
-    let (mut seats, mut roles, mut ports) = (seats, roles, ports);
+    let (mut states, mut roles, mut ports) = (states, roles, ports);
     while let Some(named) = ports.pop() {
         let Some(role) = roles.pop() else {
             unreachable!();
         };
         let i = ports.len();
         let port = unnamed(named);
-        give_task(&mut seats[i], Task { port, role });
+        give_task(&mut states[i], Task { port, role });
     }
-    seats
+    states
 }
 
 /// A port without the name of its component.
@@ -281,9 +289,9 @@ fn unnamed<P: Port>(named: Named<P>) -> P
     named.port
 }
 
-/// Gives a seat its task.
-fn give_task<P: Port>(seat: &mut Seat<P>, task: Task<P>)
-    ensures { seat.new ≡ record seat.old { task = Some task } }
+/// Gives a state its task.
+fn give_task<P: Port>(state: &mut InstanceState<P>, task: Task<P>)
+    ensures { state.new ≡ record state.old { task = Some task } }
 {
-    seat.task = Some(task);
+    state.task = Some(task);
 }

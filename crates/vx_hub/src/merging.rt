@@ -10,56 +10,56 @@ ghost use Rattle.vx_hub.specs.Failures.{HasReason};
 ghost use Rattle.vx_hub.specs.declared.fatal.Fatal.TheVariants.{WantOfMemory as NoMemory};
 ghost use Rattle.vx_hub.specs.Merges.{HasDoneOne, NoneMergesAt, NoneMerges, NoTickDue};
 ghost use Rattle.vx_hub.specs.Standing.{IsHub, AreMergers, SameTask};
-ghost use Rattle.vx_seats.specs.Staying.{EachSeat};
+ghost use Rattle.vx_instances.specs.Staying.{EachState};
 
 use crate::fatal::Fatal;
 use crate::hub::Hub;
 use vx_ends::Port;
 use vx_landing::merge;
-use vx_moves::Books;
+use vx_moves::EngineState;
 use vx_ready::can_merge;
 
 impl<P: Port> Hub<P> {
-    /// Has an instance at home that merges do what there is to do, in the name of a worker: it is leased, takes what is buffered and
-    /// answers that; then it puts out all that it holds if nothing more can come, or acts by itself if its check is due, and is home
+    /// Has an unleased instance that merges do what there is to do, in the name of a worker: it is leased, takes what is buffered and
+    /// answers that; then it puts out all that it holds if nothing more can come, or acts by itself if its check is due, and is unleased
     /// again. Tells whether one had something to do; where none had, nothing has changed.
     ///
     /// The lease is of the moment `now`, in milliseconds; where a call before told a later one, it is of that still. `Fatal` comes for
-    /// want of memory: the instance is at home then, and each copy that it had is still held.
+    /// want of memory: the instance is unleased then, and each copy that it had is still held.
     pub fn merge(&mut self, worker: u32, now: u64) -> Result<bool, Fatal>
-        requires { IsHub P.told self.old }
-        ensures hub { IsHub P.told self.new }
+        requires { IsHub P.observed self.old }
+        ensures hub { IsHub P.observed self.new }
         ensures did { result ≡ Ok true →
-            HasDoneOne worker (max now self.old.books.run.latest) self.old.books.log
-            self.new.books.log }
+            HasDoneOne worker (max now self.old.engine.run.latest) self.old.engine.log
+            self.new.engine.log }
         ensures noted { OnErr result
-            (HasDoneOne worker (max now self.old.books.run.latest) self.old.books.log
-            self.new.books.log) }
-        ensures by { OnlyAdds (IsBy worker) self.old.books.log self.new.books.log }
+            (HasDoneOne worker (max now self.old.engine.run.latest) self.old.engine.log
+            self.new.engine.log) }
+        ensures by { OnlyAdds (IsBy worker) self.old.engine.log self.new.engine.log }
         ensures unchanged { result ≡ Ok false → self.new ≡ self.old }
         ensures none { result ≡ Ok false → self.old.fatal ≡ false →
-            NoneMerges self.old.books.log (max now self.old.books.run.latest) }
+            NoneMerges self.old.engine.log (max now self.old.engine.run.latest) }
         ensures early { result ≡ Ok false → self.old.fatal ≡ false →
-            NoTickDue self.old.books (max now self.old.books.run.latest) }
+            NoTickDue self.old.engine (max now self.old.engine.run.latest) }
         ensures fatal { OnErr result (self.new.fatal ≡ true) }
-        ensures reason { IfErr result (HasReason self.new.books.log) }
+        ensures reason { IfErr result (HasReason self.new.engine.log) }
         ensures memory { IfErr result (λ why. why ≡ NoMemory) }
-        ensures rest { OnOk result (self.new ≡ record self.old { books = self.new.books }) }
-        ensures short { self.new.books.run.short ≡ self.old.books.run.short }
-        ensures tasks { EachSeat SameTask self.old.books.seats self.new.books.seats }
+        ensures rest { OnOk result (self.new ≡ record self.old { engine = self.new.engine }) }
+        ensures short { self.new.engine.run.out_of_memory ≡ self.old.engine.run.out_of_memory }
+        ensures tasks { EachState SameTask self.old.engine.states self.new.engine.states }
         ensures sound { self.old.fatal ≡ true → result ≡ Ok false }
         ensures latest { (result ≡ Ok false)
-            ⊎ (self.new.books.run.latest ≡ max now self.old.books.run.latest) }
-        ensures size { length self.new.books.seats ≡ length self.old.books.seats }
+            ⊎ (self.new.engine.run.latest ≡ max now self.old.engine.run.latest) }
+        ensures size { length self.new.engine.states ≡ length self.old.engine.states }
     {
         if self.fatal {
             return Ok(false);
         }
-        let now = now.max(self.books.run.latest);
-        let Some(i) = first_merger(&self.books, self.mergers.as_slice(), now) else {
+        let now = now.max(self.engine.run.latest);
+        let Some(i) = first_merger(&self.engine, self.mergers.as_slice(), now) else {
             return Ok(false);
         };
-        match merge(&mut self.books, self.alloc, i, worker, now) {
+        match merge(&mut self.engine, self.alloc, i, worker, now) {
             Ok(()) => Ok(true),
             Err(short) => {
                 self.fatal = true;
@@ -70,20 +70,20 @@ impl<P: Port> Hub<P> {
 }
 
 /// The first of some instances that merge that has something to do at a moment.
-fn first_merger<P: Port>(books: &Books<P>, mergers: &[u32], now: u64) -> Option<u32>
-    requires stands { Stands P.told books.now }
-    requires served { IsServed books.now }
-    requires mergers { AreMergers books.now.run.plan.components
-        (length books.now.seats) mergers.now }
-    ensures within { IfSome result (λ i. i < length books.now.seats) }
-    ensures joins { IfSome result (λ i. joins_at books.now.log i ≡ true) }
-    ensures leasable { IfSome result (λ i. IsLeasable books.now i now) }
+fn first_merger<P: Port>(engine: &EngineState<P>, mergers: &[u32], now: u64) -> Option<u32>
+    requires stands { Stands P.observed engine.now }
+    requires served { IsServed engine.now }
+    requires mergers { AreMergers engine.now.run.plan.components
+        (length engine.now.states) mergers.now }
+    ensures within { IfSome result (λ i. i < length engine.now.states) }
+    ensures joins { IfSome result (λ i. joins_at engine.now.log i ≡ true) }
+    ensures leasable { IfSome result (λ i. IsLeasable engine.now i now) }
     ensures none { IfNone result
-        ((k : ℕ) → IfSome (slice_get mergers.now k) (NoneMergesAt books.now now)) }
+        ((k : ℕ) → IfSome (slice_get mergers.now k) (NoneMergesAt engine.now now)) }
 {
     for k in 0..mergers.len() {
         let i = mergers[k];
-        if can_merge(books, i, now) {
+        if can_merge(engine, i, now) {
             return Some(i);
         }
     }

@@ -2,7 +2,7 @@ ghost use Rattle.std.specs.Prelude.{◌≡◌, ◌<◌, ◌≤◌, ◌^◌, [], 
 ghost use Rattle.vx_record.specs.Installs.{started};
 ghost use Rattle.vx_moves.specs.Returns.{HaveReturned};
 ghost use Rattle.vx_hub.specs.Ending.{IsOver};
-ghost use Rattle.vx_hub.specs.Remains.{HasEnded, AreNumbered, AreClosed, AreTold, AreToldButGiven, AreHome, ArePortsOf};
+ghost use Rattle.vx_hub.specs.Remains.{HasEnded, AreNumbered, AreClosed, AreObserved, AreObservedButGiven, AreUnleased, ArePortsOf};
 ghost use Rattle.vx_hub.specs.Standing.{IsHub};
 
 use crate::hub::Hub;
@@ -10,9 +10,9 @@ use crate::parts::{Numbered, NumberedList};
 use crate::slots::end_slots;
 use vx_ends::Port;
 use vx_history::History;
-use vx_moves::Books;
+use vx_instances::InstanceStates;
+use vx_moves::EngineState;
 use vx_record::Entry;
-use vx_seats::Seats;
 use vx_tasks::Task;
 use vx_value::ItemList;
 
@@ -29,60 +29,60 @@ impl<P: Port> Hub<P> {
     /// Ends a hub whose instances all ended. Each port is closed, as that of each instance with a device was before. It takes no
     /// memory.
     pub fn end(self) -> Remains<P>
-        requires hub { IsHub P.told self }
-        requires over { IsOver self.books.log }
-        ensures history { result.history ≡ self.books.log }
-        ensures ended { HasEnded (length (started self.books.log)) self.books.log }
+        requires hub { IsHub P.observed self }
+        requires over { IsOver self.engine.log }
+        ensures history { result.history ≡ self.engine.log }
+        ensures ended { HasEnded (length (started self.engine.log)) self.engine.log }
         ensures numbers { AreNumbered 0 result.ports }
-        ensures count { length result.ports ≡ length (started self.books.log) }
-        ensures closed { AreClosed P.told result.ports }
-        ensures told { self.books.run.short ≡ false → AreTold P.told self.books.log result.ports }
-        ensures told_but { AreToldButGiven P.told self.books.log result.ports }
-        ensures returned { self.books.run.short ≡ false → HaveReturned self.books.log }
+        ensures count { length result.ports ≡ length (started self.engine.log) }
+        ensures closed { AreClosed P.observed result.ports }
+        ensures observed { self.engine.run.out_of_memory ≡ false → AreObserved P.observed self.engine.log result.ports }
+        ensures observed_but { AreObservedButGiven P.observed self.engine.log result.ports }
+        ensures returned { self.engine.run.out_of_memory ≡ false → HaveReturned self.engine.log }
     {
         let Hub {
             alloc: _,
-            books,
+            engine,
             fatal: _,
             ports,
             sources: _,
             mergers: _,
         } = self;
-        let Books {
+        let EngineState {
             places,
             keepers,
-            seats,
+            states,
             balance: _,
             run: _,
             log,
-        } = books;
+        } = engine;
         places.end();
         end_slots(keepers);
         Remains {
-            ports: ports_of(seats, ports),
+            ports: ports_of(states, ports),
             history: log,
         }
     }
 }
 
-/// The ports of instances that are all at home, closed, with their numbers. It takes no memory.
-fn ports_of<P: Port>(seats: Seats<P>, berths: Vec<Numbered<P>>) -> NumberedList<P>
-    requires few { length seats < 2 ^ 32 }
-    requires home { AreHome seats }
-    requires room { length seats ≤ vec_capacity berths }
-    requires none { berths.items ≡ [] }
-    ensures count { length result ≡ length seats }
+/// The ports of instances that are all unleased, closed, with their numbers. It takes no memory.
+fn ports_of<P: Port>(states: InstanceStates<P>, port_slots: Vec<Numbered<P>>) -> NumberedList<P>
+    requires few { length states < 2 ^ 32 }
+    requires unleased { AreUnleased states }
+    requires room { length states ≤ vec_capacity port_slots }
+    requires none { port_slots.items ≡ [] }
+    ensures count { length result ≡ length states }
     ensures numbers { AreNumbered 0 result }
-    ensures ports { ArePortsOf P.told seats result }
+    ensures ports { ArePortsOf P.observed states result }
 {
-    let (mut seats, mut berths) = (seats, berths);
-    for i in 0..seats.len() as u32 {
-        let Some((task, _)) = seats.leave(i, 0) else {
+    let (mut states, mut port_slots) = (states, port_slots);
+    for i in 0..states.len() as u32 {
+        let Some((task, _)) = states.leave(i, 0) else {
             unreachable!();
         };
         let Task { mut port, role: _ } = task;
         port.close();
-        berths.push_reserved(Numbered { instance: i, port });
+        port_slots.push_reserved(Numbered { instance: i, port });
     }
-    ItemList::from_vec(berths)
+    ItemList::from_vec(port_slots)
 }

@@ -4,17 +4,17 @@ use Rattle.vx_value.specs.declared.value.Value.{Value}
 use Rattle.vx_value.specs.declared.field.Field.{Field}
 use Rattle.vx_value.specs.Datum.{data_of, named_of}
 use Rattle.vx_value.specs.Values.{datum_of, named_datum}
-use Rattle.vx_value.specs.Texts.{Word}
+use Rattle.vx_value.specs.Texts.{ByteString}
 use Rattle.vx_json.specs.Written.{written, separator, items_written, fields_written}
 
 -- what is written of values, of fields, and of one field
-abbrev of_values : List Value → Word
+abbrev of_values : List Value → ByteString
 of_values xs = items_written (data_of (map datum_of xs))
 
-abbrev of_fields : List Field → Word
+abbrev of_fields : List Field → ByteString
 of_fields fs = fields_written (named_of (map named_datum fs))
 
-regroup : (a b c d : Word) → a ++ 44 ∷ ((b ++ c) ++ d) ≡ ((a ++ 44 ∷ b) ++ c) ++ d
+regroup : (a b c d : ByteString) → a ++ 44 ∷ ((b ++ c) ++ d) ≡ ((a ++ 44 ∷ b) ++ c) ++ d
 regroup a b c d = simp append_assoc
 
 -- one value more
@@ -40,5 +40,5 @@ fields-more (g ∷ k ∷ fs) (suc (suc i)) f h e =
     rw add-one (ap (λ w. of_fields (g ∷ []) ++ 44 ∷ w) (rw add-one at later) ∙ regroup (of_fields (g ∷ [])) (of_fields (take (suc i) (k ∷ fs))) (44 ∷ []) (of_fields (f ∷ [])))
 
 -- what a loop has written, one step further
-pub step : (old : Word) (opening : ℕ) (before more mark rest : Word) → more ≡ before ++ mark ++ rest → ((old ++ opening ∷ before) ++ mark) ++ rest ≡ old ++ opening ∷ more
+pub step : (old : ByteString) (opening : ℕ) (before more mark rest : ByteString) → more ≡ before ++ mark ++ rest → ((old ++ opening ∷ before) ++ mark) ++ rest ≡ old ++ opening ∷ more
 step old opening before more mark rest e = rw e (simp append_assoc)

@@ -1,7 +1,7 @@
 -- A value is as deep as its text opens levels, at most.
 use Rattle.std.proofs.Common.{◌≡◌, ℕ, suc, max, ◌+◌, ◌≤◌, Bool, true, false, cond, ◌==◌, Option, Some, None, List, [], ◌∷◌, ◌++◌, length, refl, ap, arith, codes}
 use Rattle.std.specs.Str.Lossy.{utf8_lossy}
-use Rattle.vx_value.specs.Texts.{Word, text_lt, same_text, is_empty}
+use Rattle.vx_value.specs.Texts.{ByteString, text_lt, same_text, is_empty}
 use Rattle.vx_value.specs.Datum.{Datum, Null, Truth, Items, Fields, NamedDatum, data_of, named_of, depth, data_depth, named_depth}
 use Rattle.vx_value.specs.Events.{with_field}
 use Rattle.vx_json.specs.Numbers.{is_digit}
@@ -17,7 +17,7 @@ data-push : (ds : List Datum) (v : Datum) → data_depth (data_of (ds ++ v ∷ [
 data-push [] v = omega arith
 data-push (d ∷ ds) v = let h = data-push ds v in omega arith
 
-named-with : (fs : List NamedDatum) (name : Word) (v : Datum) → named_depth (named_of (with_field fs name v)) ≤ max (depth v) (named_depth (named_of fs))
+named-with : (fs : List NamedDatum) (name : ByteString) (v : Datum) → named_depth (named_of (with_field fs name v)) ≤ max (depth v) (named_depth (named_of fs))
 named-with [] name v = omega arith
 named-with (f ∷ fs) name v = by_order (text_lt f.name name) (same_text f.name name) (named-with fs name v)
   where
@@ -26,7 +26,7 @@ named-with (f ∷ fs) name v = by_order (text_lt f.name name) (same_text f.name 
     by_order false true h = omega arith
     by_order false false h = omega arith
 
-number-depth : (w : Word) → depth (number_datum w) ≡ 0
+number-depth : (w : ByteString) → depth (number_datum w) ≡ 0
 unfolding number_datum
 number-depth w = choose (λ d. depth d ≡ 0) (is_whole_text w) _ _ (λ _. refl) (λ _. refl)
 
@@ -102,22 +102,22 @@ end-fits v (InFields fs name ∷ st) b l h =
 after-fits : (v : Datum) (st : List Frame) (b : ℕ) → depth v + length st ≤ 32 → StackFits st → Fits (after_move v st b)
 after-fits v st b l h = choose Fits (is_blank b) (state (AtEnd v) st) (end_move v st b) (λ _. (l, h)) (λ _. end-fits v st b l h)
 
-digits-fits : (o : Option NumberPlace) (p : NumberPlace) (w : Word) (st : List Frame) (b : ℕ) → length st ≤ 32 → StackFits st → Fits (digits_move o p w st b)
+digits-fits : (o : Option NumberPlace) (p : NumberPlace) (w : ByteString) (st : List Frame) (b : ℕ) → length st ≤ 32 → StackFits st → Fits (digits_move o p w st b)
 digits-fits (Some q) p w st b l h = (tt, h)
 digits-fits None p w st b l h =
     choose Fits (may_end p) (after_move (number_datum (utf8_lossy w)) st b) None (λ _. after-fits (number_datum (utf8_lossy w)) st b (omega (arith, number-depth (utf8_lossy w))) h) (λ _. tt)
 
-word-fits : (rest : Word) (d : Datum) (st : List Frame) (b : ℕ) → depth d + length st ≤ 32 → StackFits st → Fits (word_move rest d st b)
+word-fits : (rest : ByteString) (d : Datum) (st : List Frame) (b : ℕ) → depth d + length st ≤ 32 → StackFits st → Fits (word_move rest d st b)
 word-fits [] d st b l h = tt
 word-fits (a ∷ rest) d st b l h =
     choose Fits (a == b) (cond (is_empty rest) (state (AtEnd d) st) (state (InWord rest d) st)) None (λ _. choose Fits (is_empty rest) (state (AtEnd d) st) (state (InWord rest d) st) (λ _. (l, h)) (λ _. (l, h))) (λ _. tt)
 
-name-fits : (m : TextMove) (fs : List NamedDatum) (w : Word) (st : List Frame) → named_depth (named_of fs) + suc (length st) ≤ 32 → StackFits st → Fits (name_move m fs w st)
+name-fits : (m : TextMove) (fs : List NamedDatum) (w : ByteString) (st : List Frame) → named_depth (named_of fs) + suc (length st) ≤ 32 → StackFits st → Fits (name_move m fs w st)
 name-fits (Goes q bytes) fs w st l h = (l, h)
 name-fits Ends fs w st l h = (l, h)
 name-fits Wrong fs w st l h = tt
 
-words-fits : (m : TextMove) (w : Word) (st : List Frame) → length st ≤ 32 → StackFits st → Fits (words_move m w st)
+words-fits : (m : TextMove) (w : ByteString) (st : List Frame) → length st ≤ 32 → StackFits st → Fits (words_move m w st)
 words-fits (Goes q bytes) w st l h = (tt, h)
 words-fits Ends w st l h = (omega arith, h)
 words-fits Wrong w st l h = tt
@@ -145,7 +145,7 @@ step-fits (InNumber p w) st b l k h = digits-fits (number_move p b) p w st b l h
 step-fits (InText p w) st b l k h = words-fits (text_move p b) w st l h
 
 -- the value of a text fits
-number-finishes : (t : Bool) (w : Word) (v : Datum) → cond t (Some (number_datum w)) None ≡ Some v → depth v ≤ 32
+number-finishes : (t : Bool) (w : ByteString) (v : Datum) → cond t (Some (number_datum w)) None ≡ Some v → depth v ≤ 32
 number-finishes true w v e = let same : number_datum w ≡ v = cc in omega (arith, ap depth same, number-depth w)
 number-finishes false w v e = cc
 

@@ -3,7 +3,7 @@ use Rattle.std.proofs.Common.{◌≡◌, ℕ, suc, ◌+◌, ◌-◌, ◌≤◌, 
 use Rattle.std.proofs.lemmas.Bool.Decides.{nat_tests}
 use Rattle.std.specs.Char.{encode_utf8}
 use Rattle.std.specs.Str.Lossy.{utf8_lossy}
-use Rattle.vx_value.specs.Texts.{Word}
+use Rattle.vx_value.specs.Texts.{ByteString}
 use Rattle.vx_value.specs.Datum.{Datum, Null, Truth, Items, Fields, NamedDatum, data_of, named_of}
 use Rattle.vx_value.specs.Events.{with_field}
 use Rattle.vx_json.specs.Numbers.{is_digit}
@@ -274,7 +274,7 @@ number-facts number.Mark b = choose (NumberFacts b) ((b == 43) || (b == 45)) (So
 number-facts number.Sign b = digit-to-facts b number.Exponent None tt
 number-facts number.Exponent b = digit-to-facts b number.Exponent None tt
 
-digits-facts : (o : Option NumberPlace) (p : NumberPlace) (w : Word) (st : List Frame) (b : ℕ) → NumberFacts b o → StepFacts Outside (length st) b (digits_move o p w st b)
+digits-facts : (o : Option NumberPlace) (p : NumberPlace) (w : ByteString) (st : List Frame) (b : ℕ) → NumberFacts b o → StepFacts Outside (length st) b (digits_move o p w st b)
 digits-facts (Some q) p w st b h = stays (InNumber q (w ++ b ∷ [])) st b tt refl h
 digits-facts None p w st b h = choose (StepFacts Outside (length st) b) (may_end p) (after_move (number_datum (utf8_lossy w)) st b) None (λ _. after-facts (number_datum (utf8_lossy w)) st b) (λ _. tt)
 
@@ -282,7 +282,7 @@ digits-facts None p w st b h = choose (StepFacts Outside (length st) b) (may_end
 letter_plain : (b : ℕ) → nat_le 97 b && nat_le b 122 ≡ true → IsPlain b
 letter_plain b h = plain_of b (grind (arith, nat_tests)) (grind (arith, nat_tests)) (grind (arith, nat_tests))
 
-word-facts : (rest : Word) (d : Datum) (st : List Frame) (b : ℕ) → IsLive (InWord rest d) → StepFacts Outside (length st) b (word_move rest d st b)
+word-facts : (rest : ByteString) (d : Datum) (st : List Frame) (b : ℕ) → IsLive (InWord rest d) → StepFacts Outside (length st) b (word_move rest d st b)
 word-facts [] d st b l = tt
 word-facts (a ∷ []) d st b l =
     choose (StepFacts Outside (length st) b) (a == b) (state (AtEnd d) st) None (λ k. let k' = both_true (nat_le 97 a && nat_le a 122) true l.1 in stays (AtEnd d) st b tt refl (subst IsPlain (eq_of a b k) (letter_plain a k'.0))) (λ _. tt)
@@ -296,12 +296,12 @@ count_in_text place.Escaped n b = refl
 count_in_text (place.Letter h) n b = refl
 count_in_text p n b = refl
 
-words-facts : (p : TextPlace) (m : TextMove) (w : Word) (st : List Frame) (b : ℕ) → MoveFacts (inside_place p) b m → StepFacts (inside_place p) (length st) b (words_move m w st)
+words-facts : (p : TextPlace) (m : TextMove) (w : ByteString) (st : List Frame) (b : ℕ) → MoveFacts (inside_place p) b m → StepFacts (inside_place p) (length st) b (words_move m w st)
 words-facts p (Goes q bytes) w st b h = (h.0, h.1, count_in_text p (length st) b)
 words-facts p Ends w st b h = (tt, h, count_in_text p (length st) b)
 words-facts p Wrong w st b h = tt
 
-name-facts : (p : TextPlace) (m : TextMove) (fs : List NamedDatum) (w : Word) (st : List Frame) (b : ℕ) → MoveFacts (inside_place p) b m → StepFacts (inside_place p) (length st + 1) b (name_move m fs w st)
+name-facts : (p : TextPlace) (m : TextMove) (fs : List NamedDatum) (w : ByteString) (st : List Frame) (b : ℕ) → MoveFacts (inside_place p) b m → StepFacts (inside_place p) (length st + 1) b (name_move m fs w st)
 name-facts p (Goes q bytes) fs w st b h = (h.0, h.1, count_in_text p (length st + 1) b)
 name-facts p Ends fs w st b h = (tt, h, count_in_text p (length st + 1) b)
 name-facts p Wrong fs w st b h = tt
@@ -348,11 +348,11 @@ step-facts (InNumber p w) st b l = digits-facts (number_move p b) p w st b (numb
 step-facts (InText p w) st b l = words-facts p (text_move p b) w st b (text-facts p b l)
 
 -- ---- what bytes lead to
-pub record Stands (inside : Inside) (n : ℕ) (p : Word) (s : State) : Type 0 where
+pub record Stands (inside : Inside) (n : ℕ) (p : ByteString) (s : State) : Type 0 where
   pub live : IsLive s.mode
   pub count : height s.mode s.stack ≡ open_behind inside n p
 
-stands-at : (p : Word) (m : Mode) (st : List Frame) (s : State) → IsLive m → reached m st p ≡ Some s → Stands (inside_of m) (height m st) p s
+stands-at : (p : ByteString) (m : Mode) (st : List Frame) (s : State) → IsLive m → reached m st p ≡ Some s → Stands (inside_of m) (height m st) p s
 stands-at [] m st s l e =
     let same : record { mode = m; stack = st } ≡ s = cc e in subst (λ (t : State). Stands (inside_of m) (height m st) [] t) same (record { live = l; count = refl })
 stands-at (b ∷ p) m st s l e = onward (step m st b) (step-facts m st b l) (λ n su k h. stands-at p n su s k h) e
@@ -361,7 +361,7 @@ stands-at (b ∷ p) m st s l e = onward (step m st b) (step-facts m st b l) (λ 
     onward None f ih h = cc
     onward (Some t) f ih h = let later = ih t.mode t.stack f.0 h in record { live = later.live; count = later.count ∙ (λ k. open_behind (f.1 k) (f.2 k) p) }
 
-pub stands : (p : Word) (s : State) → reached AtValue [] p ≡ Some s → Stands Outside 0 p s
+pub stands : (p : ByteString) (s : State) → reached AtValue [] p ≡ Some s → Stands Outside 0 p s
 stands p s e = stands-at p AtValue [] s tt e
 
 -- a byte opens one level at most

@@ -19,7 +19,7 @@ pub mod Reaching
 pub mod Levels
 pub mod Readings
 pub mod Putting
-pub mod Drafting
+pub mod Building
 pub mod WrittenTexts
 pub mod Shallow
 pub mod WrittenAgain

@@ -2,7 +2,7 @@
 use Rattle.std.proofs.Common.{◌≡◌, ◌≢◌, ℕ, zero, suc, ◌+◌, ◌<◌, ◌≤◌, Bool, true, false, cond, nat_le, Option, Some, None, Result, Ok, Err, IfOk, IfErr, List, [], ◌∷◌, length, take, drop, get_or, refl, sym, ◌∙◌, ap, subst, arith}
 use Rattle.std.proofs.lemmas.Bool.Decides.{nat_tests}
 use Rattle.std.proofs.Math.Seq.{drop-cons}
-use Rattle.vx_value.specs.Texts.{Word}
+use Rattle.vx_value.specs.Texts.{ByteString}
 use Rattle.vx_value.specs.Datum.{Datum, Fields, NamedDatum, named_of, named_list}
 use Rattle.vx_value.specs.declared.event.Event.{Event}
 use Rattle.vx_value.proofs.Steps.{named_list-named_of}
@@ -21,31 +21,31 @@ use Rattle.vx_json.proofs.WrittenTexts.{named-back}
 le-true : (n : ℕ) → n ≤ 32 → nat_le n 32 ≡ true
 le-true n h = grind (arith, nat_tests)
 
-shallow-take : (w : Word) (inside : Inside) (n k : ℕ) → stays_shallow inside n w ≡ true → open_behind inside n (take k w) ≤ 32
+shallow-take : (w : ByteString) (inside : Inside) (n k : ℕ) → stays_shallow inside n w ≡ true → open_behind inside n (take k w) ≤ 32
 shallow-take [] inside n zero h = le_of n 32 h
 shallow-take [] inside n (suc k) h = le_of n 32 h
 shallow-take (b ∷ w) inside n zero h = le_of n 32 (both_true _ _ h).0
 shallow-take (b ∷ w) inside n (suc k) h = shallow-take w (inside_after inside b) (count_after inside n b) k (both_true _ _ h).1
 
-shallow-test : (w : Word) (inside : Inside) (n : ℕ) → ((k : ℕ) → k ≤ length w → open_behind inside n (take k w) ≤ 32) → stays_shallow inside n w ≡ true
+shallow-test : (w : ByteString) (inside : Inside) (n : ℕ) → ((k : ℕ) → k ≤ length w → open_behind inside n (take k w) ≤ 32) → stays_shallow inside n w ≡ true
 shallow-test [] inside n h = le-true n (h 0 (omega arith))
 shallow-test (b ∷ w) inside n h = and_true _ _ (le-true n (h 0 (omega arith))) (shallow-test w (inside_after inside b) (count_after inside n b) (λ k l. h (suc k) (omega arith)))
 
 -- ---- what a reader finds in bytes that stay shallow
-low-next : (bytes : Word) (i b : ℕ) (m : Mode) (st : List Frame) (s : State) → i < length bytes → get_or bytes i 0 ≡ b → HasRead bytes i m st → StaysShallow bytes (length bytes) → Some s ≡ step m st b → height s.mode s.stack ≤ 32
+low-next : (bytes : ByteString) (i b : ℕ) (m : Mode) (st : List Frame) (s : State) → i < length bytes → get_or bytes i 0 ≡ b → HasRead bytes i m st → StaysShallow bytes (length bytes) → Some s ≡ step m st b → height s.mode s.stack ≤ 32
 low-next bytes i b m st s l e h low k =
     let count : height s.mode s.stack ≡ open_levels (take (i + 1) bytes) = (stands (take (i + 1) bytes) s (leads-on bytes i b m s.mode st s.stack l e h k)).count in
     omega (arith, count, low (i + 1) (omega arith))
 
 -- the byte that comes next, and what is behind it
-byte-next : (bytes : Word) (i b : ℕ) (w : Word) → drop i bytes ≡ b ∷ w → i < length bytes → (get_or bytes i 0 ≡ b) × (drop (i + 1) bytes ≡ w)
+byte-next : (bytes : ByteString) (i b : ℕ) (w : ByteString) → drop i bytes ≡ b ∷ w → i < length bytes → (get_or bytes i 0 ≡ b) × (drop (i + 1) bytes ≡ w)
 byte-next bytes i b w e l =
     let both : get_or bytes i 0 ∷ drop (suc i) bytes ≡ b ∷ w = sym (drop-cons bytes i 0 l) ∙ e in
     let place : i + 1 ≡ suc i = omega arith in
     let first : get_or bytes i 0 ≡ b = cc in
     let rest : drop (suc i) bytes ≡ w = cc in (first, ap (λ j. drop j bytes) place ∙ rest)
 
-read-through : (w bytes : Word) (i : ℕ) (m : Mode) (st : List Frame) (v : Datum) → drop i bytes ≡ w → i + length w ≡ length bytes → HasRead bytes i m st → StaysShallow bytes (length bytes) → outcome m st w ≡ Some v → IsValue bytes v
+read-through : (w bytes : ByteString) (i : ℕ) (m : Mode) (st : List Frame) (v : Datum) → drop i bytes ≡ w → i + length w ≡ length bytes → HasRead bytes i m st → StaysShallow bytes (length bytes) → outcome m st w ≡ Some v → IsValue bytes v
 read-through [] bytes i m st v e l h low o = read-finished bytes i m st v (omega arith) h o
 read-through (b ∷ w) bytes i m st v e l h low o =
     let within : i < length bytes = omega arith in
@@ -62,14 +62,14 @@ object-value (Some (Fields ns)) fields h = let e : named_list ns ≡ fields = cc
 object-value o fields h = cc
 
 -- ---- the function and the relation
-pub object-of-event : (bytes : Word) (fields : List NamedDatum) → IsEvent bytes fields → object_of bytes ≡ Some fields
+pub object-of-event : (bytes : ByteString) (fields : List NamedDatum) → IsEvent bytes fields → object_of bytes ≡ Some fields
 unfolding object_of
 object-of-event bytes fields i =
     ap (λ t. cond t (object_fields (outcome AtValue [] bytes)) None) (shallow-test bytes Outside 0 i.shallow)
     ∙ ap object_fields (text-outcome bytes (Fields (named_of fields)) i.text)
     ∙ ap Some (named_list-named_of fields)
 
-pub event-of-object : (bytes : Word) (fields : List NamedDatum) → object_of bytes ≡ Some fields → IsEvent bytes fields
+pub event-of-object : (bytes : ByteString) (fields : List NamedDatum) → object_of bytes ≡ Some fields → IsEvent bytes fields
 unfolding object_of
 event-of-object bytes fields h = by_test (stays_shallow Outside 0 bytes) refl h
   where
@@ -81,7 +81,7 @@ event-of-object bytes fields h = by_test (stays_shallow Outside 0 bytes) refl h
         event-of-value bytes (Fields (named_of fields)) fields v refl
 
 -- ---- bytes with a fault are no object
-no-fault-of-event : (bytes : Word) (fields : List NamedDatum) (f : JsonFault) → IsEvent bytes fields → IsFault bytes f → f ≡ fault.WantOfMemory
+no-fault-of-event : (bytes : ByteString) (fields : List NamedDatum) (f : JsonFault) → IsEvent bytes fields → IsFault bytes f → f ≡ fault.WantOfMemory
 no-fault-of-event bytes fields (fault.NotJson at) i h = absurd (h.no_text (Fields (named_of fields)) i.text)
 no-fault-of-event bytes fields (fault.Deep at) i h = absurd (too-deep h)
   where
@@ -90,7 +90,7 @@ no-fault-of-event bytes fields (fault.Deep at) i h = absurd (too-deep h)
 no-fault-of-event bytes fields fault.NotObject i h = absurd (subst IsNoObject (i.only h.value h.text) h.no_object)
 no-fault-of-event bytes fields fault.WantOfMemory i h = refl
 
-no-object : (bytes : Word) (f : JsonFault) → IsFault bytes f → f ≢ fault.WantOfMemory → object_of bytes ≡ None
+no-object : (bytes : ByteString) (f : JsonFault) → IsFault bytes f → f ≢ fault.WantOfMemory → object_of bytes ≡ None
 no-object bytes f h n = by_object (object_of bytes) refl
   where
     by_object : (o : Option (List NamedDatum)) → o ≡ object_of bytes → object_of bytes ≡ None
@@ -98,10 +98,10 @@ no-object bytes f h n = by_object (object_of bytes) refl
     by_object (Some fields) e = absurd (n (no-fault-of-event bytes fields f (event-of-object bytes fields (sym e)) h))
 
 -- ---- what an answer of the reader tells
-pub object-told : (bytes : Word) (r : Result Event JsonFault) → IfOk r (λ event. IsEvent bytes event.fields) → IfOk r (λ event. object_of bytes ≡ Some event.fields)
-object-told bytes (Ok event) i = object-of-event bytes event.fields i
-object-told bytes (Err f) i = tt
+pub object-observed : (bytes : ByteString) (r : Result Event JsonFault) → IfOk r (λ event. IsEvent bytes event.fields) → IfOk r (λ event. object_of bytes ≡ Some event.fields)
+object-observed bytes (Ok event) i = object-of-event bytes event.fields i
+object-observed bytes (Err f) i = tt
 
-pub no-object-told : (bytes : Word) (r : Result Event JsonFault) → IfErr r (IsFault bytes) → IfErr r (λ f. f ≢ fault.WantOfMemory → object_of bytes ≡ None)
-no-object-told bytes (Ok event) h = tt
-no-object-told bytes (Err f) h = no-object bytes f h
+pub no-object-observed : (bytes : ByteString) (r : Result Event JsonFault) → IfErr r (IsFault bytes) → IfErr r (λ f. f ≢ fault.WantOfMemory → object_of bytes ≡ None)
+no-object-observed bytes (Ok event) h = tt
+no-object-observed bytes (Err f) h = no-object bytes f h

@@ -5,7 +5,7 @@ use Rattle.std.specs.Str.{IsUtf8}
 use Rattle.std.specs.Str.Lossy.{utf8_lossy}
 use Rattle.std.proofs.lemmas.Bool.Decides.{nat_tests}
 use Rattle.std.proofs.lemmas.Str.{utf8_lossy-IsUtf8, IsUtf8-append, IsUtf8-nil, IsUtf8-encode, IsUtf8-from_ascii}
-use Rattle.vx_value.specs.Texts.{Word}
+use Rattle.vx_value.specs.Texts.{ByteString}
 use Rattle.vx_value.specs.Replacement.{IsCharacter}
 use Rattle.vx_value.proofs.Characters.{code_of as codes-of}
 use Rattle.vx_json.specs.Strings.{Piece, Itself, Short, Coded, Paired, IsPiece, ArePieces, piece_bytes, pieces_bytes, is_short, short_byte, is_high, is_low, code_of, paired_code, are_hex, Four}
@@ -13,7 +13,7 @@ use Rattle.vx_json.proofs.NumberValues.{ascii-cons, ascii-nil}
 use Rattle.vx_json.proofs.TextTails.{hex_bound}
 use Rattle.vx_json.proofs.Choices.{both_true}
 
-character-utf8 : (c : Word) → IsCharacter c → IsUtf8 c
+character-utf8 : (c : ByteString) → IsCharacter c → IsUtf8 c
 character-utf8 c h = let k = codes-of c h in subst IsUtf8 k.2 (IsUtf8-encode k.0 k.1)
 
 short_ascii : (c : ℕ) → is_short c ≡ true → short_byte c < 128

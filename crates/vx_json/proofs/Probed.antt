@@ -3,7 +3,7 @@ use Rattle.std.proofs.Common.{◌≡◌, ℕ, zero, suc, ◌+◌, ◌*◌, ◌/�
 use Rattle.std.proofs.lemmas.Bool.Decides.{nat_tests}
 use Rattle.std.specs.Str.Lossy.{utf8_lossy}
 use Rattle.std.specs.Str.Parse.{signed_digits_value}
-use Rattle.vx_value.specs.Texts.{Word, is_empty}
+use Rattle.vx_value.specs.Texts.{ByteString, is_empty}
 use Rattle.vx_value.specs.Datum.{Datum, Null, Truth, Whole, Spelled, Words, Items, Fields, NamedDatum, data_of, named_of}
 use Rattle.vx_value.specs.Events.{with_field}
 use Rattle.vx_json.specs.Numbers.{is_digit}
@@ -12,9 +12,9 @@ use Rattle.vx_json.specs.Faults.{Inside, inside_after, count_after}
 use Rattle.vx_json.specs.Objects.{stays_shallow, object_fields, object_of}
 use Rattle.vx_json.specs.Machine as machine
 use Rattle.vx_json.specs.Machine.{TextMove, Goes, Ends, Wrong, text_move, number_move, may_end, is_whole_text, number_datum, Frame, InItems, InFields, Mode, State, state, step, begin_move, end_move, after_move, name_move, words_move, digits_move, word_move, finish, carry, outcome, height}
-use Rattle.vx_json.specs.Spots.{Spot, Before, FirstItem, FirstName, NextName, InName, Colon, Behind, InWord, InNumber, InText, Place, stands, opened, open_spot, begin_spot, end_spot, after_spot, name_spot, words_spot, digits_spot, word_spot, spot_step, onward, led, spot_ends, ends_object}
-use Rattle.vx_json.specs.Probing.{spot_view, place_view, HasProbed}
-use Rattle.vx_json.specs.declared.spot.Spot as spot
+use Rattle.vx_json.specs.ProbeModes.{ProbeMode, Before, FirstItem, FirstName, NextName, InName, Colon, Behind, InWord, InNumber, InText, Place, stands, opened, open_probe_mode, begin_probe_mode, end_probe_mode, after_probe_mode, name_probe_mode, words_probe_mode, digits_probe_mode, word_probe_mode, probe_mode_step, onward, led, probe_mode_ends, ends_object}
+use Rattle.vx_json.specs.Probing.{probe_mode_view, place_view, HasProbed}
+use Rattle.vx_json.specs.declared.probe_mode.ProbeMode as probe_mode
 use Rattle.vx_json.specs.declared.probe.Probe.{Probe}
 use Rattle.vx_json.specs.declared.text_place.TextPlace.TheVariants as text
 use Rattle.vx_json.specs.declared.number_place.NumberPlace.{NumberPlace}
@@ -28,7 +28,7 @@ abbrev is_fields : Datum → Bool
 is_fields (Fields ns) = true
 is_fields d = false
 
-abbrev bare : Mode → Spot
+abbrev bare : Mode → ProbeMode
 bare machine.AtValue = Before
 bare machine.AtFirstItem = FirstItem
 bare machine.AtFirstName = FirstName
@@ -126,13 +126,13 @@ pick : {p q : Option Place} {o r : Option State} (t : Bool) → Agrees p o → A
 pick true e f = e
 pick false e f = f
 
-opens-array : (st : List Frame) → Agrees (open_spot FirstItem false (kinds st)) (state machine.AtFirstItem st)
+opens-array : (st : List Frame) → Agrees (open_probe_mode FirstItem false (kinds st)) (state machine.AtFirstItem st)
 opens-array st = record { same = ap (λ t. cond t (shown machine.AtFirstItem st) None) (limit st) }
 
-opens-object : (st : List Frame) → Agrees (open_spot FirstName true (kinds st)) (state machine.AtFirstName st)
+opens-object : (st : List Frame) → Agrees (open_probe_mode FirstName true (kinds st)) (state machine.AtFirstName st)
 opens-object st = record { same = ap (λ t. cond t (shown machine.AtFirstName st) None) (limit st) }
 
-begin-agrees : (st : List Frame) (b : ℕ) → length st ≤ 32 → Agrees (begin_spot (kinds st) b) (begin_move st b)
+begin-agrees : (st : List Frame) (b : ℕ) → length st ≤ 32 → Agrees (begin_probe_mode (kinds st) b) (begin_move st b)
 begin-agrees st b h =
     pick (b == 34) (stay (machine.InText text.Plain []) st h)
     (pick (b == 45) (stay (machine.InNumber number.Minus (b ∷ [])) st h)
@@ -145,13 +145,13 @@ begin-agrees st b h =
     (pick (b == 102) (stay (machine.InWord (codes "alse") (Truth false)) st h) wrong))))))))
 
 -- ---- behind values
-at-item : (n b : ℕ) → end_spot (n * 2) b ≡ cond (b == 44) (stands Before (n * 2)) (cond (b == 93) (stands (Behind false) n) None)
+at-item : (n b : ℕ) → end_probe_mode (n * 2) b ≡ cond (b == 44) (stands Before (n * 2)) (cond (b == 93) (stands (Behind false) n) None)
 at-item n b = rw (even_one n, even_rest n, half_even n) refl
 
-at-field : (n b : ℕ) → 1 ≤ n → end_spot (n * 2 + 1) b ≡ cond (b == 44) (stands NextName (n * 2 + 1)) (cond (b == 125) (stands (Behind true) n) None)
+at-field : (n b : ℕ) → 1 ≤ n → end_probe_mode (n * 2 + 1) b ≡ cond (b == 44) (stands NextName (n * 2 + 1)) (cond (b == 125) (stands (Behind true) n) None)
 at-field n b h = rw (odd_one n h, odd_rest n, half_odd n) refl
 
-end-agrees : (d : Datum) (st : List Frame) (b : ℕ) → length st ≤ 32 → Agrees (end_spot (kinds st) b) (end_move d st b)
+end-agrees : (d : Datum) (st : List Frame) (b : ℕ) → length st ≤ 32 → Agrees (end_probe_mode (kinds st) b) (end_move d st b)
 end-agrees d [] b h = wrong
 end-agrees d (InItems ds ∷ st) b h =
     let moves : Agrees (cond (b == 44) (stands Before (kinds st * 2)) (cond (b == 93) (stands (Behind false) (kinds st)) None)) (end_move d (InItems ds ∷ st) b) =
@@ -162,10 +162,10 @@ end-agrees d (InFields fs name ∷ st) b h =
     pick (b == 44) (stay (machine.AtName (with_field fs name d)) st (omega arith)) (pick (b == 125) (stay (machine.AtEnd (Fields (named_of (with_field fs name d)))) st (omega arith)) wrong) in
     record { same = at-field (kinds st) b (many st 0 (omega arith)) ∙ moves.same }
 
-after-agrees : (d : Datum) (st : List Frame) (b : ℕ) → length st ≤ 32 → Agrees (after_spot (is_fields d) (kinds st) b) (after_move d st b)
+after-agrees : (d : Datum) (st : List Frame) (b : ℕ) → length st ≤ 32 → Agrees (after_probe_mode (is_fields d) (kinds st) b) (after_move d st b)
 after-agrees d st b h = pick (is_blank b) (stay (machine.AtEnd d) st h) (end-agrees d st b h)
 
-number-fields : (w : Word) → is_fields (number_datum w) ≡ false
+number-fields : (w : ByteString) → is_fields (number_datum w) ≡ false
 unfolding number_datum
 number-fields w = either (is_whole_text w) (Whole (signed_digits_value 10 w)) (Spelled w) refl refl
   where
@@ -174,40 +174,40 @@ number-fields w = either (is_whole_text w) (Whole (signed_digits_value 10 w)) (S
     either false x y e f = f
 
 -- ---- inside values
-name-agrees : (m : TextMove) (fs : List NamedDatum) (w : Word) (st : List Frame) → length st + 1 ≤ 32 → Agrees (name_spot m (opened true (kinds st))) (name_move m fs w st)
+name-agrees : (m : TextMove) (fs : List NamedDatum) (w : ByteString) (st : List Frame) → length st + 1 ≤ 32 → Agrees (name_probe_mode m (opened true (kinds st))) (name_move m fs w st)
 name-agrees (Goes q more) fs w st h = stay (machine.InName fs q (w ++ more)) st h
 name-agrees Ends fs w st h = stay (machine.AtColon fs (utf8_lossy w)) st h
 name-agrees Wrong fs w st h = wrong
 
-words-agrees : (m : TextMove) (w : Word) (st : List Frame) → length st ≤ 32 → Agrees (words_spot m (kinds st)) (words_move m w st)
+words-agrees : (m : TextMove) (w : ByteString) (st : List Frame) → length st ≤ 32 → Agrees (words_probe_mode m (kinds st)) (words_move m w st)
 words-agrees (Goes q more) w st h = stay (machine.InText q (w ++ more)) st h
 words-agrees Ends w st h = stay (machine.AtEnd (Words (utf8_lossy w))) st h
 words-agrees Wrong w st h = wrong
 
-digits-agrees : (o : Option NumberPlace) (p : NumberPlace) (w : Word) (st : List Frame) (b : ℕ) → length st ≤ 32 → Agrees (digits_spot o p (kinds st) b) (digits_move o p w st b)
+digits-agrees : (o : Option NumberPlace) (p : NumberPlace) (w : ByteString) (st : List Frame) (b : ℕ) → length st ≤ 32 → Agrees (digits_probe_mode o p (kinds st) b) (digits_move o p w st b)
 digits-agrees (Some q) p w st b h = stay (machine.InNumber q (w ++ b ∷ [])) st h
 digits-agrees None p w st b h =
-    let after : Agrees (after_spot (is_fields (number_datum (utf8_lossy w))) (kinds st) b) (after_move (number_datum (utf8_lossy w)) st b) = after-agrees (number_datum (utf8_lossy w)) st b h in
-    pick (may_end p) (subst (λ (t : Bool). Agrees (after_spot t (kinds st) b) (after_move (number_datum (utf8_lossy w)) st b)) (number-fields (utf8_lossy w)) after) wrong
+    let after : Agrees (after_probe_mode (is_fields (number_datum (utf8_lossy w))) (kinds st) b) (after_move (number_datum (utf8_lossy w)) st b) = after-agrees (number_datum (utf8_lossy w)) st b h in
+    pick (may_end p) (subst (λ (t : Bool). Agrees (after_probe_mode t (kinds st) b) (after_move (number_datum (utf8_lossy w)) st b)) (number-fields (utf8_lossy w)) after) wrong
 
-word-agrees : (rest : Word) (d : Datum) (st : List Frame) (b : ℕ) → length st ≤ 32 → Agrees (word_spot rest (is_fields d) (kinds st) b) (word_move rest d st b)
+word-agrees : (rest : ByteString) (d : Datum) (st : List Frame) (b : ℕ) → length st ≤ 32 → Agrees (word_probe_mode rest (is_fields d) (kinds st) b) (word_move rest d st b)
 word-agrees [] d st b h = wrong
 word-agrees (a ∷ rest) d st b h = pick (a == b) (pick (is_empty rest) (stay (machine.AtEnd d) st h) (stay (machine.InWord rest d) st h)) wrong
 
 -- ---- each byte
-first-item-agrees : (st : List Frame) (b : ℕ) → length st + 1 ≤ 32 → Agrees (spot_step FirstItem (kinds st * 2) b) (step machine.AtFirstItem st b)
+first-item-agrees : (st : List Frame) (b : ℕ) → length st + 1 ≤ 32 → Agrees (probe_mode_step FirstItem (kinds st * 2) b) (step machine.AtFirstItem st b)
 first-item-agrees st b h =
     pick (is_blank b) (stay machine.AtFirstItem st h)
     (pick (b == 93) (subst (λ (n : ℕ). Agrees (stands (Behind false) n) (state (machine.AtEnd (Items (data_of []))) st)) (sym (half_even (kinds st))) (stay (machine.AtEnd (Items (data_of []))) st (omega arith)))
     (begin-agrees (InItems [] ∷ st) b (omega arith)))
 
-first-name-agrees : (st : List Frame) (b : ℕ) → length st + 1 ≤ 32 → Agrees (spot_step FirstName (kinds st * 2 + 1) b) (step machine.AtFirstName st b)
+first-name-agrees : (st : List Frame) (b : ℕ) → length st + 1 ≤ 32 → Agrees (probe_mode_step FirstName (kinds st * 2 + 1) b) (step machine.AtFirstName st b)
 first-name-agrees st b h =
     pick (is_blank b) (stay machine.AtFirstName st h)
     (pick (b == 125) (subst (λ (n : ℕ). Agrees (stands (Behind true) n) (state (machine.AtEnd (Fields (named_of []))) st)) (sym (half_odd (kinds st))) (stay (machine.AtEnd (Fields (named_of []))) st (omega arith)))
     (pick (b == 34) (stay (machine.InName [] text.Plain []) st h) wrong))
 
-step-agrees : (m : Mode) (st : List Frame) (b : ℕ) → height m st ≤ 32 → Agrees (spot_step (bare m) (levels_of m st) b) (step m st b)
+step-agrees : (m : Mode) (st : List Frame) (b : ℕ) → height m st ≤ 32 → Agrees (probe_mode_step (bare m) (levels_of m st) b) (step m st b)
 step-agrees machine.AtValue st b h = pick (is_blank b) (stay machine.AtValue st h) (begin-agrees st b h)
 step-agrees machine.AtFirstItem st b h = first-item-agrees st b h
 step-agrees machine.AtFirstName st b h = first-name-agrees st b h
@@ -224,11 +224,11 @@ kind-inside : (f : Frame) (st : List Frame) → (kinds (f ∷ st) == 1) ≡ fals
 kind-inside (InItems ds) st = even_one (kinds st)
 kind-inside (InFields fs name) st = odd_one (kinds st) (many st 0 (omega arith))
 
-ends-inside : (o : Bool) (f : Frame) (st : List Frame) → false ≡ spot_ends (Behind o) (kinds (f ∷ st))
+ends-inside : (o : Bool) (f : Frame) (st : List Frame) → false ≡ probe_mode_ends (Behind o) (kinds (f ∷ st))
 ends-inside true f st = sym (kind-inside f st)
 ends-inside false f st = refl
 
-ends-value : (d : Datum) → is_some (object_fields (Some d)) ≡ spot_ends (Behind (is_fields d)) 1
+ends-value : (d : Datum) → is_some (object_fields (Some d)) ≡ probe_mode_ends (Behind (is_fields d)) 1
 ends-value Null = refl
 ends-value (Truth b) = refl
 ends-value (Whole z) = refl
@@ -237,11 +237,11 @@ ends-value (Words w) = refl
 ends-value (Items ds) = refl
 ends-value (Fields ns) = refl
 
-ends-number : (t : Bool) (w : Word) → is_some (object_fields (cond t (Some (number_datum w)) None)) ≡ false
+ends-number : (t : Bool) (w : ByteString) → is_some (object_fields (cond t (Some (number_datum w)) None)) ≡ false
 ends-number false w = refl
-ends-number true w = ends-value (number_datum w) ∙ ap (λ o. spot_ends (Behind o) 1) (number-fields w)
+ends-number true w = ends-value (number_datum w) ∙ ap (λ o. probe_mode_ends (Behind o) 1) (number-fields w)
 
-finish-agrees : (m : Mode) (st : List Frame) → is_some (object_fields (finish m st)) ≡ spot_ends (bare m) (levels_of m st)
+finish-agrees : (m : Mode) (st : List Frame) → is_some (object_fields (finish m st)) ≡ probe_mode_ends (bare m) (levels_of m st)
 finish-agrees (machine.AtEnd d) [] = ends-value d
 finish-agrees (machine.AtEnd d) (f ∷ st) = ends-inside (is_fields d) f st
 finish-agrees (machine.InNumber p w) [] = ends-number (may_end p) (utf8_lossy w)
@@ -249,27 +249,27 @@ finish-agrees (machine.InNumber p w) (f ∷ st) = refl
 finish-agrees m st = refl
 
 -- ---- all bytes
-led-none : (w : Word) → led None w ≡ None
+led-none : (w : ByteString) → led None w ≡ None
 led-none [] = refl
 led-none (b ∷ w) = led-none w
 
-led-more : (w : Word) (b : ℕ) (o : Option Place) → led o (w ++ b ∷ []) ≡ onward (led o w) b
+led-more : (w : ByteString) (b : ℕ) (o : Option Place) → led o (w ++ b ∷ []) ≡ onward (led o w) b
 led-more [] b o = refl
 led-more (a ∷ w) b o = led-more w b (onward o a)
 
-shallow-high : (w : Word) (inside : Inside) (n : ℕ) → nat_le n 32 ≡ false → stays_shallow inside n w ≡ false
+shallow-high : (w : ByteString) (inside : Inside) (n : ℕ) → nat_le n 32 ≡ false → stays_shallow inside n w ≡ false
 shallow-high [] inside n h = h
 shallow-high (b ∷ w) inside n h = ap (λ t. t && stays_shallow (inside_after inside b) (count_after inside n b) w) h
 
 -- whether bytes are an object from a place on
-abbrev found : Inside → ℕ → Word → Option Datum → Bool
+abbrev found : Inside → ℕ → ByteString → Option Datum → Bool
 found inside n w o = is_some (cond (stays_shallow inside n w) (object_fields o) None)
 
 found-none : (t : Bool) → is_some (cond t (object_fields None) None) ≡ false
 found-none true = refl
 found-none false = refl
 
-judged : (w : Word) (m : Mode) (st : List Frame) → IsLive m → height m st ≤ 32 → found (inside_of m) (height m st) w (outcome m st w) ≡ ends_object (led (shown m st) w)
+judged : (w : ByteString) (m : Mode) (st : List Frame) → IsLive m → height m st ≤ 32 → found (inside_of m) (height m st) w (outcome m st w) ≡ ends_object (led (shown m st) w)
 judged [] m st l h = ap (λ t. is_some (cond t (object_fields (finish m st)) None)) (le_true (height m st) h) ∙ finish-agrees m st
 judged (b ∷ w) m st l h =
     onward_from (step m st b) (step-facts m st b l) (λ n su live low. judged w n su live low)
@@ -290,23 +290,23 @@ judged (b ∷ w) m st l h =
         ∙ leads_low s (nat_le (height s.mode s.stack) 32) refl ih f
 
 -- ---- what a judge tells
-probe-told : (bytes : Word) (p : Probe) → HasProbed bytes p → ends_object (place_view p.spot p.nesting.kinds) ≡ is_some (object_of bytes)
+probe-observed : (bytes : ByteString) (p : Probe) → HasProbed bytes p → ends_object (place_view p.probe_mode p.nesting.kinds) ≡ is_some (object_of bytes)
 unfolding HasProbed object_of
-probe-told bytes p h = ap ends_object h ∙ sym (judged bytes machine.AtValue [] tt (omega arith))
+probe-observed bytes p h = ap ends_object h ∙ sym (judged bytes machine.AtValue [] tt (omega arith))
 
-pub told-by : (bytes : Word) (p : Probe) (s : spot.Spot) → p.spot ≡ Some s → HasProbed bytes p → spot_ends (spot_view s) p.nesting.kinds ≡ is_some (object_of bytes)
-told-by bytes p s e h = ap (λ o. ends_object (place_view o p.nesting.kinds)) (sym e) ∙ probe-told bytes p h
+pub observed-by : (bytes : ByteString) (p : Probe) (s : probe_mode.ProbeMode) → p.probe_mode ≡ Some s → HasProbed bytes p → probe_mode_ends (probe_mode_view s) p.nesting.kinds ≡ is_some (object_of bytes)
+observed-by bytes p s e h = ap (λ o. ends_object (place_view o p.nesting.kinds)) (sym e) ∙ probe-observed bytes p h
 
-pub told-none : (bytes : Word) (p : Probe) → p.spot ≡ None → HasProbed bytes p → false ≡ is_some (object_of bytes)
-told-none bytes p e h = ap (λ o. ends_object (place_view o p.nesting.kinds)) (sym e) ∙ probe-told bytes p h
+pub observed-none : (bytes : ByteString) (p : Probe) → p.probe_mode ≡ None → HasProbed bytes p → false ≡ is_some (object_of bytes)
+observed-none bytes p e h = ap (λ o. ends_object (place_view o p.nesting.kinds)) (sym e) ∙ probe-observed bytes p h
 
 -- ---- one byte more
-pub takes : (bytes : Word) (b : ℕ) (p q : Probe) (s : spot.Spot) → p.spot ≡ Some s → place_view q.spot q.nesting.kinds ≡ spot_step (spot_view s) p.nesting.kinds b → HasProbed bytes p → HasProbed (bytes ++ b ∷ []) q
+pub takes : (bytes : ByteString) (b : ℕ) (p q : Probe) (s : probe_mode.ProbeMode) → p.probe_mode ≡ Some s → place_view q.probe_mode q.nesting.kinds ≡ probe_mode_step (probe_mode_view s) p.nesting.kinds b → HasProbed bytes p → HasProbed (bytes ++ b ∷ []) q
 unfolding HasProbed
 takes bytes b p q s e f h =
     f ∙ ap (λ o. onward (place_view o p.nesting.kinds) b) (sym e) ∙ ap (λ o. onward o b) h ∙ sym (led-more bytes b (stands Before 1))
 
-pub takes-none : (bytes : Word) (b : ℕ) (p : Probe) → p.spot ≡ None → HasProbed bytes p → HasProbed (bytes ++ b ∷ []) p
+pub takes-none : (bytes : ByteString) (b : ℕ) (p : Probe) → p.probe_mode ≡ None → HasProbed bytes p → HasProbed (bytes ++ b ∷ []) p
 unfolding HasProbed
 takes-none bytes b p e h =
     ap (λ o. place_view o p.nesting.kinds) e ∙ ap (λ o. onward (place_view o p.nesting.kinds) b) (sym e) ∙ ap (λ o. onward o b) h ∙ sym (led-more bytes b (stands Before 1))

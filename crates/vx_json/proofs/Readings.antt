@@ -2,7 +2,7 @@
 use Rattle.std.proofs.Common.{◌≡◌, ℕ, zero, suc, ◌+◌, ◌<◌, ◌≤◌, Some, None, ◌⊎◌, ⊎_elim, List, [], ◌∷◌, ◌++◌, length, take, drop, get_or, refl, sym, ◌∙◌, ap, subst, arith}
 use Rattle.std.proofs.lemmas.List.{take_more, take_all, take-append-drop, append-nil}
 use Rattle.std.proofs.str.Laws.{order}
-use Rattle.vx_value.specs.Texts.{Word}
+use Rattle.vx_value.specs.Texts.{ByteString}
 use Rattle.vx_value.specs.Datum.{Datum, Fields, NamedDatum, named_of, depth}
 use Rattle.vx_json.specs.Grammar.{IsText, BeginsText}
 use Rattle.vx_json.specs.Machine.{Frame, Mode, AtValue, AtEnd, state, step, finish, carry, reached, outcome, height}
@@ -14,14 +14,14 @@ use Rattle.vx_json.proofs.Fitting.{ModeFits, StackFits, Fits, step-fits, finish-
 use Rattle.vx_json.proofs.Levels.{stands, StepFacts, step-facts, inside_of, count-bound}
 
 -- the first i bytes lead to a place, and open no more than 32 levels
-pub record HasRead (bytes : Word) (i : ℕ) (m : Mode) (st : List Frame) : Type 0 where
+pub record HasRead (bytes : ByteString) (i : ℕ) (m : Mode) (st : List Frame) : Type 0 where
   pub leads : reached AtValue [] (take i bytes) ≡ state m st
   pub shallow : StaysShallow bytes i
   pub mode_fits : ModeFits m (length st)
   pub stack_fits : StackFits st
 
 -- before the first byte
-pub read-none : (bytes : Word) → HasRead bytes 0 AtValue []
+pub read-none : (bytes : ByteString) → HasRead bytes 0 AtValue []
 read-none bytes = record { leads = refl; shallow = λ k h. first k h; mode_fits = tt; stack_fits = tt }
   where
     first : (k : ℕ) → k ≤ 0 → open_levels (take k bytes) ≤ 32
@@ -29,30 +29,30 @@ read-none bytes = record { leads = refl; shallow = λ k h. first k h; mode_fits 
     first (suc k) h = absurd (omega arith)
 
 -- one byte more
-one-more : (bytes : Word) (i b : ℕ) (m : Mode) (st : List Frame) → i < length bytes → get_or bytes i 0 ≡ b → reached AtValue [] (take i bytes) ≡ state m st → reached AtValue [] (take (i + 1) bytes) ≡ carry (step m st b) (λ n su. state n su)
+one-more : (bytes : ByteString) (i b : ℕ) (m : Mode) (st : List Frame) → i < length bytes → get_or bytes i 0 ≡ b → reached AtValue [] (take i bytes) ≡ state m st → reached AtValue [] (take (i + 1) bytes) ≡ carry (step m st b) (λ n su. state n su)
 one-more bytes i b m st l e h =
     ap (reached AtValue []) (take_more bytes i 0 l ∙ ap (λ x. take i bytes ++ x ∷ []) e)
     ∙ reached-append (take i bytes) (b ∷ []) AtValue []
     ∙ ap (λ s. carry s (λ n su. reached n su (b ∷ []))) h
 
 -- the levels that are open there
-height-is : (bytes : Word) (i : ℕ) (m : Mode) (st : List Frame) → HasRead bytes i m st → height m st ≡ open_levels (take i bytes)
+height-is : (bytes : ByteString) (i : ℕ) (m : Mode) (st : List Frame) → HasRead bytes i m st → height m st ≡ open_levels (take i bytes)
 height-is bytes i m st h = (stands (take i bytes) (record { mode = m; stack = st }) h.leads).count
 
 -- and they are few
-pub low-at : (bytes : Word) (i : ℕ) (m : Mode) (st : List Frame) → HasRead bytes i m st → height m st ≤ 32
+pub low-at : (bytes : ByteString) (i : ℕ) (m : Mode) (st : List Frame) → HasRead bytes i m st → height m st ≤ 32
 low-at bytes i m st h = omega (arith, height-is bytes i m st h, h.shallow i (omega arith))
 
 -- a text begins with what was read
-begins-at : (bytes : Word) (i : ℕ) (m : Mode) (st : List Frame) → reached AtValue [] (take i bytes) ≡ state m st → BeginsText (take i bytes)
+begins-at : (bytes : ByteString) (i : ℕ) (m : Mode) (st : List Frame) → reached AtValue [] (take i bytes) ≡ state m st → BeginsText (take i bytes)
 begins-at bytes i m st e = beginning (take i bytes) m st e (stands (take i bytes) (record { mode = m; stack = st }) e).live
 
 -- a text begins with each of its beginnings
-text-begins : (bytes : Word) (i : ℕ) (v : Datum) → IsText bytes v → BeginsText (take i bytes)
+text-begins : (bytes : ByteString) (i : ℕ) (v : Datum) → IsText bytes v → BeginsText (take i bytes)
 text-begins bytes i v t = (drop i bytes, v, subst (λ w. IsText w v) (sym (take-append-drop i bytes)) t)
 
 -- a byte that may not come
-pub read-refused : (bytes : Word) (i b : ℕ) (m : Mode) (st : List Frame) → i < length bytes → get_or bytes i 0 ≡ b → HasRead bytes i m st → None ≡ step m st b → IsNotJson bytes i
+pub read-refused : (bytes : ByteString) (i b : ℕ) (m : Mode) (st : List Frame) → i < length bytes → get_or bytes i 0 ≡ b → HasRead bytes i m st → None ≡ step m st b → IsNotJson bytes i
 read-refused bytes i b m st l e h n =
     let none : reached AtValue [] (take (i + 1) bytes) ≡ None = one-more bytes i b m st l e h.leads ∙ ap (λ s. carry s (λ k su. state k su)) (sym n) in record {
       no_text = λ v t. no-beginning (take (i + 1) bytes) none (text-begins bytes (i + 1) v t);
@@ -62,11 +62,11 @@ read-refused bytes i b m st l e h n =
       shallow = h.shallow;
     }
 
-pub leads-on : (bytes : Word) (i b : ℕ) (m n : Mode) (st su : List Frame) → i < length bytes → get_or bytes i 0 ≡ b → HasRead bytes i m st → state n su ≡ step m st b → reached AtValue [] (take (i + 1) bytes) ≡ state n su
+pub leads-on : (bytes : ByteString) (i b : ℕ) (m n : Mode) (st su : List Frame) → i < length bytes → get_or bytes i 0 ≡ b → HasRead bytes i m st → state n su ≡ step m st b → reached AtValue [] (take (i + 1) bytes) ≡ state n su
 leads-on bytes i b m n st su l e h s = one-more bytes i b m st l e h.leads ∙ ap (λ o. carry o (λ k sv. state k sv)) (sym s)
 
 -- a byte that goes on
-pub read-more : (bytes : Word) (i b : ℕ) (m n : Mode) (st su : List Frame) → i < length bytes → get_or bytes i 0 ≡ b → HasRead bytes i m st → state n su ≡ step m st b → height n su ≤ 32 → HasRead bytes (i + 1) n su
+pub read-more : (bytes : ByteString) (i b : ℕ) (m n : Mode) (st su : List Frame) → i < length bytes → get_or bytes i 0 ≡ b → HasRead bytes i m st → state n su ≡ step m st b → height n su ≤ 32 → HasRead bytes (i + 1) n su
 read-more bytes i b m n st su l e h s low =
     let leads = leads-on bytes i b m n st su l e h s in
     let count : height n su ≡ open_levels (take (i + 1) bytes) = (stands (take (i + 1) bytes) (record { mode = n; stack = su }) leads).count in
@@ -78,7 +78,7 @@ read-more bytes i b m n st su l e h s low =
     at k below count t = ⊎_elim (λ a. h.shallow k (omega arith)) (λ a. let same : k ≡ i + 1 = omega arith in subst (λ x. open_levels (take x bytes) ≤ 32) (sym same) (omega (arith, count))) t
 
 -- a byte that opens a level too many
-pub read-deep : (bytes : Word) (i b : ℕ) (m n : Mode) (st su : List Frame) → i < length bytes → get_or bytes i 0 ≡ b → HasRead bytes i m st → state n su ≡ step m st b → 32 < height n su → IsDeep bytes i
+pub read-deep : (bytes : ByteString) (i b : ℕ) (m n : Mode) (st su : List Frame) → i < length bytes → get_or bytes i 0 ≡ b → HasRead bytes i m st → state n su ≡ step m st b → 32 < height n su → IsDeep bytes i
 read-deep bytes i b m n st su l e h s high =
     let leads = leads-on bytes i b m n st su l e h s in
     let after = stands (take (i + 1) bytes) (record { mode = n; stack = su }) leads in
@@ -92,15 +92,15 @@ read-deep bytes i b m n st su l e h s high =
     }
 
 -- where all bytes were read
-all-leads : (bytes : Word) (i : ℕ) (m : Mode) (st : List Frame) → i ≡ length bytes → HasRead bytes i m st → reached AtValue [] bytes ≡ state m st
+all-leads : (bytes : ByteString) (i : ℕ) (m : Mode) (st : List Frame) → i ≡ length bytes → HasRead bytes i m st → reached AtValue [] bytes ≡ state m st
 all-leads bytes i m st e h = ap (reached AtValue []) (sym (take_all i bytes (omega arith))) ∙ h.leads
 
-all-outcome : (bytes : Word) (i : ℕ) (m : Mode) (st : List Frame) → i ≡ length bytes → HasRead bytes i m st → outcome AtValue [] bytes ≡ finish m st
+all-outcome : (bytes : ByteString) (i : ℕ) (m : Mode) (st : List Frame) → i ≡ length bytes → HasRead bytes i m st → outcome AtValue [] bytes ≡ finish m st
 all-outcome bytes i m st e h =
     ap (outcome AtValue []) (sym (append-nil bytes)) ∙ outcome-append bytes [] AtValue [] ∙ ap (λ s. carry s (λ n su. outcome n su [])) (all-leads bytes i m st e h)
 
 -- no text ends there
-pub read-unfinished : (bytes : Word) (i : ℕ) (m : Mode) (st : List Frame) → i ≡ length bytes → HasRead bytes i m st → finish m st ≡ None → IsNotJson bytes i
+pub read-unfinished : (bytes : ByteString) (i : ℕ) (m : Mode) (st : List Frame) → i ≡ length bytes → HasRead bytes i m st → finish m st ≡ None → IsNotJson bytes i
 read-unfinished bytes i m st e h n = record {
   no_text = λ v t. none_some v (sym (all-outcome bytes i m st e h ∙ n) ∙ text-outcome bytes v t);
   within = omega arith;
@@ -117,7 +117,7 @@ finish-open (AtEnd v) f st = refl
 finish-open m f st = refl
 
 -- a text ends there
-pub read-finished : (bytes : Word) (i : ℕ) (m : Mode) (st : List Frame) (v : Datum) → i ≡ length bytes → HasRead bytes i m st → finish m st ≡ Some v → IsValue bytes v
+pub read-finished : (bytes : ByteString) (i : ℕ) (m : Mode) (st : List Frame) (v : Datum) → i ≡ length bytes → HasRead bytes i m st → finish m st ≡ Some v → IsValue bytes v
 read-finished bytes i m st v e h n =
     let o = all-outcome bytes i m st e h ∙ n in record {
       fits = finish-fits m st v h.mode_fits n;
@@ -130,7 +130,7 @@ read-finished bytes i m st v e h n =
     same w k = cc
 
 -- a value that is fields is an event
-pub event-of-value : (bytes : Word) (v : Datum) (fs : List NamedDatum) → IsValue bytes v → v ≡ Fields (named_of fs) → IsEvent bytes fs
+pub event-of-value : (bytes : ByteString) (v : Datum) (fs : List NamedDatum) → IsValue bytes v → v ≡ Fields (named_of fs) → IsEvent bytes fs
 event-of-value bytes v fs h e = record { fits = subst (λ d. depth d ≤ 32) e h.fits; text = subst (IsText bytes) e h.text; only = λ w t. h.only w t ∙ e; shallow = h.shallow }
 
 -- where something is open no text ends

@@ -3,7 +3,7 @@ use Rattle.std.proofs.Common.{◌≡◌, ℕ, suc, ◌+◌, ◌<◌, ◌||◌, �
 use Rattle.std.proofs.lemmas.List.{take_more, append-nil}
 use Rattle.std.proofs.lemmas.Bool.Decides.{nat_tests}
 use Rattle.std.specs.Str.Lossy.{utf8_lossy}
-use Rattle.vx_value.specs.Texts.{Word}
+use Rattle.vx_value.specs.Texts.{ByteString}
 use Rattle.vx_value.specs.Datum.{Datum}
 use Rattle.vx_json.specs.Numbers.{is_digit}
 use Rattle.vx_json.specs.Machine.{is_mark, after_whole, number_move, number_datum, digits_move, Frame, AtValue, InNumber, step, state}
@@ -15,11 +15,11 @@ use Rattle.vx_json.proofs.Choices.{both_true, and_true}
 use Rattle.vx_json.proofs.Levels.{choose}
 
 -- ---- one byte more
-spelled-append : (a b : Word) (p q r : NumberPlace) → LeadsNumber p a q → LeadsNumber q b r → LeadsNumber p (a ++ b) r
+spelled-append : (a b : ByteString) (p q r : NumberPlace) → LeadsNumber p a q → LeadsNumber q b r → LeadsNumber p (a ++ b) r
 spelled-append [] b p q r h k = subst (λ x. LeadsNumber x b r) (sym h) k
 spelled-append (x ∷ a) b p q r h k = (h.0, h.1, spelled-append a b h.0 q r h.2 k)
 
-pub spelled-next : (bytes : Word) (i : ℕ) (p q r : NumberPlace) → i < length bytes → LeadsNumber p (take i bytes) q → number_move q (get_or bytes i 0) ≡ Some r → LeadsNumber p (take (i + 1) bytes) r
+pub spelled-next : (bytes : ByteString) (i : ℕ) (p q r : NumberPlace) → i < length bytes → LeadsNumber p (take i bytes) q → number_move q (get_or bytes i 0) ≡ Some r → LeadsNumber p (take (i + 1) bytes) r
 spelled-next bytes i p q r l h m =
     subst (λ w. LeadsNumber p w r) (sym (take_more bytes i 0 l)) (spelled-append (take i bytes) (get_or bytes i 0 ∷ []) p q r h (r, m, refl))
 
@@ -61,12 +61,12 @@ move-plain number.Mark b = choose (PlainMove b) ((b == 43) || (b == 45)) (Some n
 move-plain number.Sign b = on-digit b number.Exponent None tt
 move-plain number.Exponent b = on-digit b number.Exponent None tt
 
-pub spelled-plain : (w : Word) (p q : NumberPlace) → LeadsNumber p w q → are_plain w ≡ true
+pub spelled-plain : (w : ByteString) (p q : NumberPlace) → LeadsNumber p w q → are_plain w ≡ true
 spelled-plain [] p q h = refl
 spelled-plain (b ∷ w) p q h = and_true _ _ (subst (PlainMove b) h.1 (move-plain p b)) (spelled-plain w h.0 q h.2)
 
 -- ---- where they lead
-spelled-run : (w v : Word) (p q : NumberPlace) (st : List Frame) → LeadsNumber p w q → LeadsLevel (InNumber p v) st w (InNumber q (v ++ w))
+spelled-run : (w v : ByteString) (p q : NumberPlace) (st : List Frame) → LeadsNumber p w q → LeadsLevel (InNumber p v) st w (InNumber q (v ++ w))
 spelled-run [] v p q st h = ap (λ x. InNumber x v) h ∙ ap (λ x. InNumber q x) (sym (append-nil v))
 spelled-run (b ∷ w) v p q st h = (
   InNumber h.0 (v ++ b ∷ []),
@@ -75,7 +75,7 @@ spelled-run (b ∷ w) v p q st h = (
   subst (λ x. LeadsLevel (InNumber h.0 (v ++ b ∷ [])) st w (InNumber q x)) (append_assoc v (b ∷ []) w) (spelled-run w (v ++ b ∷ []) h.0 q st h.2),
 )
 
-first-spelled : (b : ℕ) (rest : Word) (n : ℕ) (p : NumberPlace) (d : Datum) →
+first-spelled : (b : ℕ) (rest : ByteString) (n : ℕ) (p : NumberPlace) (d : Datum) →
     ((st : List Frame) → step AtValue st b ≡ state (InNumber p (b ∷ [])) st) → EndsNumber p rest n → d ≡ number_datum (utf8_lossy (b ∷ take n rest)) → IsNumber (b ∷ rest) (suc n) d
 first-spelled b rest n p d s e v = record {
   place = e.place;
@@ -86,7 +86,7 @@ first-spelled b rest n p d s e v = record {
 }
 
 -- a byte that begins a number, and those that go on with it
-pub spelled : (bytes rest : Word) (n : ℕ) (p : NumberPlace) (d : Datum) → 0 < length bytes → rest ≡ drop 1 bytes →
+pub spelled : (bytes rest : ByteString) (n : ℕ) (p : NumberPlace) (d : Datum) → 0 < length bytes → rest ≡ drop 1 bytes →
     ((st : List Frame) → step AtValue st (get_or bytes 0 0) ≡ state (InNumber p (get_or bytes 0 0 ∷ [])) st) → EndsNumber p rest n → d ≡ number_datum (utf8_lossy (take (n + 1) bytes)) → IsNumber bytes (n + 1) d
 spelled [] rest n p d l r s e v = absurd (omega arith)
 spelled (b ∷ bytes) rest n p d l r s e v =
@@ -94,7 +94,7 @@ spelled (b ∷ bytes) rest n p d l r s e v =
     subst (λ k. IsNumber (b ∷ bytes) k d) one
     (first-spelled b bytes n p d s (subst (λ w. EndsNumber p w n) r e) (v ∙ ap (λ k. number_datum (utf8_lossy (take k (b ∷ bytes)))) (sym one)))
 
-pub spelled-all-plain : (bytes rest : Word) (n : ℕ) (p : NumberPlace) → 0 < length bytes → rest ≡ drop 1 bytes → are_plain (get_or bytes 0 0 ∷ []) ≡ true → EndsNumber p rest n → are_plain (take (n + 1) bytes) ≡ true
+pub spelled-all-plain : (bytes rest : ByteString) (n : ℕ) (p : NumberPlace) → 0 < length bytes → rest ≡ drop 1 bytes → are_plain (get_or bytes 0 0 ∷ []) ≡ true → EndsNumber p rest n → are_plain (take (n + 1) bytes) ≡ true
 spelled-all-plain [] rest n p l r h e = absurd (omega arith)
 spelled-all-plain (b ∷ bytes) rest n p l r h e =
     let one : n + 1 ≡ suc n = omega arith in

@@ -4,7 +4,7 @@ use Rattle.std.proofs.lemmas.List.{append-nil}
 use Rattle.std.proofs.lemmas.Bool.Decides.{nat_tests}
 use Rattle.std.specs.Char.{encode_utf8}
 use Rattle.std.specs.Int.{IsInRange}
-use Rattle.vx_value.specs.Texts.{Word}
+use Rattle.vx_value.specs.Texts.{ByteString}
 use Rattle.vx_value.specs.Datum.{Words, NamedDatum}
 use Rattle.vx_value.specs.Replacement.{GoesOn}
 use Rattle.vx_json.specs.Strings.{is_hex, hex_value, is_short, short_byte, is_special, is_high, is_low, paired_code, Four, are_hex, code_of, escape_of, Piece, Itself, Short, Coded, Paired, ArePieces, IsPiece, piece_text, piece_bytes, pieces_text, pieces_bytes}
@@ -17,8 +17,8 @@ use Rattle.vx_json.proofs.NumberValues.{false_true}
 use Rattle.vx_json.proofs.PieceTexts.{code_small, lossy-pieces}
 
 -- a mode inside a text, of which each byte leads where the text's places say
-pub record IsTextMode (mode : TextPlace → Word → Mode) (st : List Frame) : Type 0 where
-  pub goes : (p : TextPlace) (w : Word) (b : ℕ) (q : TextPlace) (bytes : Word) → text_move p b ≡ Goes q bytes → step (mode p w) st b ≡ state (mode q (w ++ bytes)) st
+pub record IsTextMode (mode : TextPlace → ByteString → Mode) (st : List Frame) : Type 0 where
+  pub goes : (p : TextPlace) (w : ByteString) (b : ℕ) (q : TextPlace) (bytes : ByteString) → text_move p b ≡ Goes q bytes → step (mode p w) st b ≡ state (mode q (w ++ bytes)) st
 
 pub in-text : (st : List Frame) → IsTextMode (λ p w. InText p w) st
 in-text st = record { goes = λ p w b q bytes e. ap (λ m. words_move m w st) e }
@@ -27,11 +27,11 @@ pub in-name : (fs : List NamedDatum) (st : List Frame) → IsTextMode (λ p w. I
 in-name fs st = record { goes = λ p w b q bytes e. ap (λ m. name_move m fs w st) e }
 
 -- one byte
-go : (mode : TextPlace → Word → Mode) (st : List Frame) → IsTextMode mode st → (p : TextPlace) (w : Word) (b : ℕ) (q : TextPlace) (bytes rest : Word) → text_move p b ≡ Goes q bytes → outcome (mode p w) st (b ∷ rest) ≡ outcome (mode q (w ++ bytes)) st rest
+go : (mode : TextPlace → ByteString → Mode) (st : List Frame) → IsTextMode mode st → (p : TextPlace) (w : ByteString) (b : ℕ) (q : TextPlace) (bytes rest : ByteString) → text_move p b ≡ Goes q bytes → outcome (mode p w) st (b ∷ rest) ≡ outcome (mode q (w ++ bytes)) st rest
 go mode st t p w b q bytes rest e = ap (λ o. carry o (λ n su. outcome n su rest)) (t.goes p w b q bytes e)
 
 -- one byte that adds nothing
-skip : (mode : TextPlace → Word → Mode) (st : List Frame) → IsTextMode mode st → (p : TextPlace) (w : Word) (b : ℕ) (q : TextPlace) (rest : Word) → text_move p b ≡ Goes q [] → outcome (mode p w) st (b ∷ rest) ≡ outcome (mode q w) st rest
+skip : (mode : TextPlace → ByteString → Mode) (st : List Frame) → IsTextMode mode st → (p : TextPlace) (w : ByteString) (b : ℕ) (q : TextPlace) (rest : ByteString) → text_move p b ≡ Goes q [] → outcome (mode p w) st (b ∷ rest) ≡ outcome (mode q w) st rest
 skip mode st t p w b q rest e = go mode st t p w b q [] rest e ∙ ap (λ x. outcome (mode q x) st rest) (append-nil w)
 
 -- ---- what bytes do
@@ -60,18 +60,18 @@ not_eq' : (a b : ℕ) → b < a → (a == b) ≡ false
 not_eq' a b h = grind (arith, nat_tests)
 
 -- ---- a character that stands for itself
-run-two : (mode : TextPlace → Word → Mode) (st : List Frame) → IsTextMode mode st → (p : TextPlace) (w : Word) (a b : ℕ) (rest : Word) → text_move place.Plain a ≡ Goes p (a ∷ []) → text_move p b ≡ Goes place.Plain (b ∷ []) → outcome (mode place.Plain w) st (a ∷ b ∷ rest) ≡ outcome (mode place.Plain (w ++ a ∷ b ∷ [])) st rest
+run-two : (mode : TextPlace → ByteString → Mode) (st : List Frame) → IsTextMode mode st → (p : TextPlace) (w : ByteString) (a b : ℕ) (rest : ByteString) → text_move place.Plain a ≡ Goes p (a ∷ []) → text_move p b ≡ Goes place.Plain (b ∷ []) → outcome (mode place.Plain w) st (a ∷ b ∷ rest) ≡ outcome (mode place.Plain (w ++ a ∷ b ∷ [])) st rest
 run-two mode st t p w a b rest e f =
     go mode st t place.Plain w a p (a ∷ []) (b ∷ rest) e ∙ go mode st t p (w ++ a ∷ []) b place.Plain (b ∷ []) rest f
     ∙ ap (λ x. outcome (mode place.Plain x) st rest) (append_assoc w (a ∷ []) (b ∷ []))
 
-run-three : (mode : TextPlace → Word → Mode) (st : List Frame) → IsTextMode mode st → (p q : TextPlace) (w : Word) (a b c : ℕ) (rest : Word) → text_move place.Plain a ≡ Goes p (a ∷ []) → text_move p b ≡ Goes q (b ∷ []) → text_move q c ≡ Goes place.Plain (c ∷ []) → outcome (mode place.Plain w) st (a ∷ b ∷ c ∷ rest) ≡ outcome (mode place.Plain (w ++ a ∷ b ∷ c ∷ [])) st rest
+run-three : (mode : TextPlace → ByteString → Mode) (st : List Frame) → IsTextMode mode st → (p q : TextPlace) (w : ByteString) (a b c : ℕ) (rest : ByteString) → text_move place.Plain a ≡ Goes p (a ∷ []) → text_move p b ≡ Goes q (b ∷ []) → text_move q c ≡ Goes place.Plain (c ∷ []) → outcome (mode place.Plain w) st (a ∷ b ∷ c ∷ rest) ≡ outcome (mode place.Plain (w ++ a ∷ b ∷ c ∷ [])) st rest
 run-three mode st t p q w a b c rest e f g =
     go mode st t place.Plain w a p (a ∷ []) (b ∷ c ∷ rest) e ∙ go mode st t p (w ++ a ∷ []) b q (b ∷ []) (c ∷ rest) f
     ∙ go mode st t q (w ++ a ∷ [] ++ b ∷ []) c place.Plain (c ∷ []) rest g
     ∙ ap (λ x. outcome (mode place.Plain x) st rest) (append_assoc (w ++ a ∷ []) (b ∷ []) (c ∷ []) ∙ append_assoc w (a ∷ []) (b ∷ c ∷ []))
 
-run-four : (mode : TextPlace → Word → Mode) (st : List Frame) → IsTextMode mode st → (p : TextPlace) (w : Word) (a b c d : ℕ) (rest : Word) → text_move place.Plain a ≡ Goes p (a ∷ []) → text_move p b ≡ Goes place.Two (b ∷ []) → GoesOn c → GoesOn d → outcome (mode place.Plain w) st (a ∷ b ∷ c ∷ d ∷ rest) ≡ outcome (mode place.Plain (w ++ a ∷ b ∷ c ∷ d ∷ [])) st rest
+run-four : (mode : TextPlace → ByteString → Mode) (st : List Frame) → IsTextMode mode st → (p : TextPlace) (w : ByteString) (a b c d : ℕ) (rest : ByteString) → text_move place.Plain a ≡ Goes p (a ∷ []) → text_move p b ≡ Goes place.Two (b ∷ []) → GoesOn c → GoesOn d → outcome (mode place.Plain w) st (a ∷ b ∷ c ∷ d ∷ rest) ≡ outcome (mode place.Plain (w ++ a ∷ b ∷ c ∷ d ∷ [])) st rest
 run-four mode st t p w a b c d rest e f g h =
     go mode st t place.Plain w a p (a ∷ []) (b ∷ c ∷ d ∷ rest) e ∙ go mode st t p (w ++ a ∷ []) b place.Two (b ∷ []) (c ∷ d ∷ rest) f
     ∙ go mode st t place.Two (w ++ a ∷ [] ++ b ∷ []) c place.Last (c ∷ []) (d ∷ rest) (within-goes 0x80 0xBF place.Last c g)
@@ -82,7 +82,7 @@ run-four mode st t p w a b c d rest e f g h =
 eq_in : (x a : ℕ) → IsInRange x x a → a ≡ x
 eq_in x a h = omega arith
 
-run-character : (mode : TextPlace → Word → Mode) (st : List Frame) → IsTextMode mode st → (c w rest : Word) → IsPiece (Itself c) → outcome (mode place.Plain w) st (c ++ rest) ≡ outcome (mode place.Plain (w ++ c)) st rest
+run-character : (mode : TextPlace → ByteString → Mode) (st : List Frame) → IsTextMode mode st → (c w rest : ByteString) → IsPiece (Itself c) → outcome (mode place.Plain w) st (c ++ rest) ≡ outcome (mode place.Plain (w ++ c)) st rest
 run-character mode st t [] w rest h = absurd h.0
 run-character mode st t (a ∷ []) w rest h = go mode st t place.Plain w a place.Plain (a ∷ []) rest (ascii-goes a h.0.1 h.1)
 run-character mode st t (a ∷ b ∷ []) w rest h = run-two mode st t place.Last w a b rest (two-lead a h.0.0.0 h.0.0.1) (within-goes 0x80 0xBF place.Plain b h.0.1)
@@ -131,7 +131,7 @@ low4-goes : (n a b c d : ℕ) (m : TextMove) → is_hex d ≡ true → code_move
 low4-goes n a b c d m h e = rw h e
 
 -- the four digits behind a backslash and an `u`
-run-digits : (mode : TextPlace → Word → Mode) (st : List Frame) → IsTextMode mode st → (f : Four) (w rest : Word) → are_hex f ≡ true → is_low (code_of f) ≡ false → outcome (mode place.Plain w) st (escape_of f ++ rest) ≡ outcome (mode (place.Hex4 f.first f.second f.third) w) st (f.fourth ∷ rest)
+run-digits : (mode : TextPlace → ByteString → Mode) (st : List Frame) → IsTextMode mode st → (f : Four) (w rest : ByteString) → are_hex f ≡ true → is_low (code_of f) ≡ false → outcome (mode place.Plain w) st (escape_of f ++ rest) ≡ outcome (mode (place.Hex4 f.first f.second f.third) w) st (f.fourth ∷ rest)
 run-digits mode st t f w rest a l =
     let k = both_true _ _ a in
     let m = both_true _ _ k.1 in
@@ -160,7 +160,7 @@ fourth_hex f h =
     let k = both_true (is_hex f.first) (is_hex f.second && (is_hex f.third && is_hex f.fourth)) h in
     let m = both_true (is_hex f.second) (is_hex f.third && is_hex f.fourth) k.1 in (both_true (is_hex f.third) (is_hex f.fourth) m.1).1
 
-run-coded : (mode : TextPlace → Word → Mode) (st : List Frame) → IsTextMode mode st → (f : Four) (w rest : Word) → IsPiece (Coded f) → outcome (mode place.Plain w) st (escape_of f ++ rest) ≡ outcome (mode place.Plain (w ++ encode_utf8 (code_of f))) st rest
+run-coded : (mode : TextPlace → ByteString → Mode) (st : List Frame) → IsTextMode mode st → (f : Four) (w rest : ByteString) → IsPiece (Coded f) → outcome (mode place.Plain w) st (escape_of f ++ rest) ≡ outcome (mode place.Plain (w ++ encode_utf8 (code_of f))) st rest
 run-coded mode st t f w rest h =
     let fourth = fourth_hex f h.0 in
     let small = code_small f h.0 in
@@ -187,7 +187,7 @@ low_digits x y u v hx hy hu hv l =
 pub paired_character : (h l : ℕ) → is_high h ≡ true → is_low l ≡ true → is_character_code (paired_code h l) ≡ true
 paired_character h l a b = grind (arith, nat_tests)
 
-run-paired : (mode : TextPlace → Word → Mode) (st : List Frame) → IsTextMode mode st → (f g : Four) (w rest : Word) → IsPiece (Paired f g) → outcome (mode place.Plain w) st (escape_of f ++ escape_of g ++ rest) ≡ outcome (mode place.Plain (w ++ encode_utf8 (paired_code (code_of f) (code_of g)))) st rest
+run-paired : (mode : TextPlace → ByteString → Mode) (st : List Frame) → IsTextMode mode st → (f g : Four) (w rest : ByteString) → IsPiece (Paired f g) → outcome (mode place.Plain w) st (escape_of f ++ escape_of g ++ rest) ≡ outcome (mode place.Plain (w ++ encode_utf8 (paired_code (code_of f) (code_of g)))) st rest
 run-paired mode st t f g w rest h =
     let fourth = fourth_hex f h.0 in
     let k = both_true _ _ h.1 in
@@ -206,14 +206,14 @@ run-paired mode st t f g w rest h =
     (low4-goes high g.first g.second g.third g.fourth (Goes place.Plain (encode_utf8 (paired_code high (code_of g)))) n.1 (code-goes (paired_code high (code_of g)) (paired_character high (code_of g) h.2 h.3)))
 
 -- ---- any piece, and all of them
-run-piece : (mode : TextPlace → Word → Mode) (st : List Frame) → IsTextMode mode st → (p : Piece) (w rest : Word) → IsPiece p → outcome (mode place.Plain w) st (piece_text p ++ rest) ≡ outcome (mode place.Plain (w ++ piece_bytes p)) st rest
+run-piece : (mode : TextPlace → ByteString → Mode) (st : List Frame) → IsTextMode mode st → (p : Piece) (w rest : ByteString) → IsPiece p → outcome (mode place.Plain w) st (piece_text p ++ rest) ≡ outcome (mode place.Plain (w ++ piece_bytes p)) st rest
 run-piece mode st t (Itself c) w rest h = run-character mode st t c w rest h
 run-piece mode st t (Short c) w rest h =
     skip mode st t place.Plain w 92 place.Escaped (c ∷ rest) refl ∙ go mode st t place.Escaped w c place.Plain (short_byte c ∷ []) rest (short-goes c h)
 run-piece mode st t (Coded f) w rest h = run-coded mode st t f w rest h
 run-piece mode st t (Paired f g) w rest h = run-paired mode st t f g w rest h
 
-pub run-pieces : (mode : TextPlace → Word → Mode) (st : List Frame) → IsTextMode mode st → (ps : List Piece) (w rest : Word) → ArePieces ps → outcome (mode place.Plain w) st (pieces_text ps ++ rest) ≡ outcome (mode place.Plain (w ++ pieces_bytes ps)) st rest
+pub run-pieces : (mode : TextPlace → ByteString → Mode) (st : List Frame) → IsTextMode mode st → (ps : List Piece) (w rest : ByteString) → ArePieces ps → outcome (mode place.Plain w) st (pieces_text ps ++ rest) ≡ outcome (mode place.Plain (w ++ pieces_bytes ps)) st rest
 run-pieces mode st t [] w rest h = ap (λ x. outcome (mode place.Plain x) st rest) (sym (append-nil w))
 run-pieces mode st t (p ∷ ps) w rest h =
     ap (λ r. outcome (mode place.Plain w) st r) (append_assoc (piece_text p) (pieces_text ps) rest)
@@ -222,10 +222,10 @@ run-pieces mode st t (p ∷ ps) w rest h =
     ∙ ap (λ x. outcome (mode place.Plain x) st rest) (append_assoc w (piece_bytes p) (pieces_bytes ps))
 
 -- ---- a text between quotes
-pub run-text : (ps : List Piece) (st : List Frame) (rest : Word) → ArePieces ps → outcome (InText place.Plain []) st (pieces_text ps ++ 34 ∷ rest) ≡ outcome (AtEnd (Words (pieces_bytes ps))) st rest
+pub run-text : (ps : List Piece) (st : List Frame) (rest : ByteString) → ArePieces ps → outcome (InText place.Plain []) st (pieces_text ps ++ 34 ∷ rest) ≡ outcome (AtEnd (Words (pieces_bytes ps))) st rest
 run-text ps st rest h =
     run-pieces (λ p w. InText p w) st (in-text st) ps [] (34 ∷ rest) h ∙ ap (λ x. outcome (AtEnd (Words x)) st rest) (lossy-pieces ps h)
 
-pub run-name : (ps : List Piece) (fs : List NamedDatum) (st : List Frame) (rest : Word) → ArePieces ps → outcome (InName fs place.Plain []) st (pieces_text ps ++ 34 ∷ rest) ≡ outcome (AtColon fs (pieces_bytes ps)) st rest
+pub run-name : (ps : List Piece) (fs : List NamedDatum) (st : List Frame) (rest : ByteString) → ArePieces ps → outcome (InName fs place.Plain []) st (pieces_text ps ++ 34 ∷ rest) ≡ outcome (AtColon fs (pieces_bytes ps)) st rest
 run-name ps fs st rest h =
     run-pieces (λ p w. InName fs p w) st (in-name fs st) ps [] (34 ∷ rest) h ∙ ap (λ x. outcome (AtColon fs x) st rest) (lossy-pieces ps h)

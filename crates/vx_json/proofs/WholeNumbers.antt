@@ -4,14 +4,14 @@ use Rattle.std.specs.Fmt.{decimal, signed_decimal}
 use Rattle.std.proofs.lemmas.Bool.Decides.{nat_tests}
 use Rattle.std.proofs.lemmas.Fmt.{decimal_by_steps, first_decimal, decimal_digit}
 use Rattle.std.proofs.lemmas.List.{append-nil}
-use Rattle.vx_value.specs.Texts.{Word}
+use Rattle.vx_value.specs.Texts.{ByteString}
 use Rattle.vx_json.specs.Numbers.{is_digit, are_digits, is_minus, is_whole_part, NumberParts}
 use Rattle.vx_json.proofs.Choices.{both_true, and_true}
 
 digit_of : (n : ℕ) → n < 10 → is_digit (48 + n) ≡ true
 digit_of n h = grind (arith, nat_tests)
 
-digits-append : (a b : Word) → are_digits a ≡ true → are_digits b ≡ true → are_digits (a ++ b) ≡ true
+digits-append : (a b : ByteString) → are_digits a ≡ true → are_digits b ≡ true → are_digits (a ++ b) ≡ true
 digits-append [] b h k = k
 digits-append (x ∷ a) b h k = let l = both_true _ _ h in and_true _ _ l.0 (digits-append a b l.1 k)
 
@@ -21,7 +21,7 @@ decimal-digits n l = decimal_by_steps (λ m ds. are_digits ds ≡ true) (λ m h.
 not_zero : (b : ℕ) → 48 < b → (b == 48) ≡ false
 not_zero b h = grind (arith, nat_tests)
 
-positive : (ds : Word) → are_digits ds ≡ true → 48 < get_or ds 0 0 → is_whole_part ds ≡ true
+positive : (ds : ByteString) → are_digits ds ≡ true → 48 < get_or ds 0 0 → is_whole_part ds ≡ true
 positive [] h l = absurd (omega arith)
 positive (b ∷ ds) h l = rw (not_zero b l) h
 
@@ -29,7 +29,7 @@ decimal-whole : (n : ℕ) → n < 2 ^ 64 → is_whole_part (decimal n) ≡ true
 decimal-whole zero l = ap is_whole_part (decimal_digit 0 (omega arith))
 decimal-whole (suc n) l = positive (decimal (suc n)) (decimal-digits (suc n) l) (first_decimal (suc n) (omega arith) l)
 
-parts-of : (minus whole : Word) → is_minus minus ≡ true → is_whole_part whole ≡ true → NumberParts (minus ++ whole)
+parts-of : (minus whole : ByteString) → is_minus minus ≡ true → is_whole_part whole ≡ true → NumberParts (minus ++ whole)
 parts-of minus whole h k = record {
   minus = minus;
   whole = whole;

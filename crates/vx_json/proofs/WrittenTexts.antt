@@ -6,7 +6,7 @@ use Rattle.std.proofs.str.Laws.{one, both}
 use Rattle.std.specs.Str.{IsUtf8}
 use Rattle.std.specs.Char.{encode_utf8}
 use lib.Utf8.{encodes, scalars}
-use Rattle.vx_value.specs.Texts.{Word}
+use Rattle.vx_value.specs.Texts.{ByteString}
 use Rattle.vx_value.specs.Datum.{Datum, Null, Truth, Whole, Spelled, Words, Items, Fields, Data, no_data, datum, NamedData, no_named, named, NamedDatum, data_of, data_list, named_of, named_list}
 use Rattle.vx_value.specs.Events.{with_field, names_rise}
 use Rattle.vx_value.specs.Replacement.{IsCharacter, BeginThree, BeginFour}
@@ -21,7 +21,7 @@ use Rattle.vx_json.proofs.TextTails.{four}
 use Rattle.vx_json.proofs.Putting.{field, with-last, last-below-next, rise-front}
 
 -- ---- characters
-pub record PieceOf (c : Word) : Type 0 where
+pub record PieceOf (c : ByteString) : Type 0 where
   pub piece : Piece
   pub is : IsPiece piece
   pub text : piece_text piece ≡ escapes c
@@ -112,7 +112,7 @@ ascii-for a h = by_quote ((a == 34) || (a == 92)) refl
     by_quote true e = let s = either-short a e in short-for a a s.0 (sym (rw e refl)) s.1
     by_quote false e = by_back (a == 8) refl e
 
-character-for : (c : Word) → IsCharacter c → PieceOf c
+character-for : (c : ByteString) → IsCharacter c → PieceOf c
 character-for [] h = absurd h
 character-for (a ∷ []) h = ascii-for a h.1
 character-for (a ∷ b ∷ []) h = record { piece = Itself (a ∷ b ∷ []); is = (h, high_special a (omega arith)); text = sym (rw (high-plain a (omega arith), high-plain b (omega arith)) refl); bytes = refl }
@@ -131,7 +131,7 @@ character-for (a ∷ b ∷ c ∷ d ∷ []) h =
 character-for (a ∷ b ∷ c ∷ d ∷ e ∷ more) h = absurd h
 
 -- ---- texts
-pub record PiecesOf (w : Word) : Type 0 where
+pub record PiecesOf (w : ByteString) : Type 0 where
   pub pieces : List Piece
   pub are : ArePieces pieces
   pub text : pieces_text pieces ≡ escapes w
@@ -149,7 +149,7 @@ codes-for (c ∷ cs) h =
       bytes = λ i. p.bytes i ++ q.bytes i;
     }
 
-text-for : (w : Word) → IsUtf8 w → PiecesOf w
+text-for : (w : ByteString) → IsUtf8 w → PiecesOf w
 text-for w u = subst PiecesOf u.1.1 (codes-for u.0 u.1.0)
 
 -- ---- values
@@ -160,7 +160,7 @@ pub record SyntaxOf (d : Datum) : Type 0 where
   pub value : value_of syntax ≡ d
 
 -- what is written behind the first value
-abbrev pub items_behind : Data → Word
+abbrev pub items_behind : Data → ByteString
 items_behind no_data = []
 items_behind (datum d ds) = 44 ∷ items_written (datum d ds)
 
@@ -179,14 +179,14 @@ data-back no_data = refl
 data-back (datum d ds) = ap (datum d) (data-back ds)
 
 -- what is written of one field, and behind the first
-abbrev pub field_text : Word → Datum → Word
+abbrev pub field_text : ByteString → Datum → ByteString
 field_text n d = quoted n ++ 58 ∷ written d
 
-abbrev pub fields_behind : NamedData → Word
+abbrev pub fields_behind : NamedData → ByteString
 fields_behind no_named = []
 fields_behind (named n d ns) = 44 ∷ fields_written (named n d ns)
 
-pub fields-split : (n : Word) (d : Datum) (ns : NamedData) → fields_written (named n d ns) ≡ field_text n d ++ fields_behind ns
+pub fields-split : (n : ByteString) (d : Datum) (ns : NamedData) → fields_written (named n d ns) ≡ field_text n d ++ fields_behind ns
 fields-split n d no_named = sym (append-nil (field_text n d))
 fields-split n d (named m e ns) = refl
 
@@ -201,17 +201,17 @@ named-back no_named = refl
 named-back (named n d ns) = ap (named n d) (named-back ns)
 
 -- a field more, where names rise
-one-field : (fs : List NamedDatum) (n : Word) (d : Datum) (rest : List NamedDatum) → names_rise (fs ++ field n d ∷ rest) ≡ true → with_field fs n d ≡ fs ++ field n d ∷ []
+one-field : (fs : List NamedDatum) (n : ByteString) (d : Datum) (rest : List NamedDatum) → names_rise (fs ++ field n d ∷ rest) ≡ true → with_field fs n d ≡ fs ++ field n d ∷ []
 one-field fs n d rest r = with-last fs n d (rise-front fs (field n d ∷ rest) r) (last-below-next fs (field n d) rest r)
 
-empty-behind : (a b c : Word) → a ++ b ++ [] ++ c ≡ a ++ (b ++ c)
+empty-behind : (a b c : ByteString) → a ++ b ++ [] ++ c ≡ a ++ (b ++ c)
 empty-behind a b c = ap (λ x. x ++ c) (append-nil (a ++ b)) ∙ append_assoc a b c
 
-no-blanks : (a q c v m : Word) → a ++ q ++ [] ++ c ++ v ++ [] ++ m ≡ a ++ (q ++ (c ++ v)) ++ m
+no-blanks : (a q c v m : ByteString) → a ++ q ++ [] ++ c ++ v ++ [] ++ m ≡ a ++ (q ++ (c ++ v)) ++ m
 no-blanks a q c v m =
     ap (λ x. x ++ m) (append-nil (a ++ q ++ [] ++ c ++ v) ∙ ap (λ x. x ++ c ++ v) (append-nil (a ++ q)) ∙ append_assoc (a ++ q) c v ∙ append_assoc a q (c ++ v))
 
-object-text : (b : ℕ) (ps : List Piece) (v : Syntax) (m : Word) → b ∷ [] ++ string_text ps ++ [] ++ 58 ∷ [] ++ spelling v ++ [] ++ m ≡ b ∷ (34 ∷ pieces_text ps ++ 34 ∷ [] ++ 58 ∷ spelling v) ++ m
+object-text : (b : ℕ) (ps : List Piece) (v : Syntax) (m : ByteString) → b ∷ [] ++ string_text ps ++ [] ++ 58 ∷ [] ++ spelling v ++ [] ++ m ≡ b ∷ (34 ∷ pieces_text ps ++ 34 ∷ [] ++ 58 ∷ spelling v) ++ m
 object-text b ps v m = no-blanks (b ∷ []) (string_text ps) (58 ∷ []) (spelling v) m
 
 mutual

@@ -2,7 +2,7 @@
 use Rattle.std.specs.Prelude.{◌≡◌, ℕ, suc, max, Bool, true, false, ◌&&◌, ◌||◌, ◌==◌, IsTrue, ℤ, List, [], ◌∷◌, ◌++◌, codes, FitsSigned}
 use Rattle.std.specs.Fmt.{signed_decimal}
 use Rattle.std.specs.Int.{w64}
-use Rattle.vx_value.specs.Texts.{Word}
+use Rattle.vx_value.specs.Texts.{ByteString}
 use Rattle.vx_value.specs.Datum.{Datum, Null, Truth, Whole, Spelled, Words, Items, Fields, NamedDatum, data_of, named_of}
 use Rattle.vx_value.specs.Events.{with_field}
 use Rattle.vx_json.specs.Numbers.{NumberParts}
@@ -13,7 +13,7 @@ abbrev pub is_blank : ℕ → Bool
 is_blank b = (b == 32) || ((b == 9) || ((b == 10) || (b == 13)))
 
 -- whether all bytes are blanks
-abbrev pub are_blanks : Word → Bool
+abbrev pub are_blanks : ByteString → Bool
 are_blanks [] = true
 are_blanks (b ∷ w) = is_blank b && are_blanks w
 
@@ -25,30 +25,30 @@ mutual
     -- a number that is spelled as a whole number of 64 bits is written
     WholeNumber : ℤ → Syntax
     -- any other number
-    OtherNumber : Word → Syntax
+    OtherNumber : ByteString → Syntax
     String : List Piece → Syntax
     -- brackets with blanks alone between
-    EmptyArray : Word → Syntax
+    EmptyArray : ByteString → Syntax
     -- blanks, the first value, blanks, and the other values
-    Array : Word → Syntax → Word → Elements → Syntax
+    Array : ByteString → Syntax → ByteString → Elements → Syntax
     -- braces with blanks alone between
-    EmptyObject : Word → Syntax
+    EmptyObject : ByteString → Syntax
     -- blanks, the first name, blanks before and behind the colon, its value, blanks, and the other members
-    Object : Word → List Piece → Word → Word → Syntax → Word → Members → Syntax
+    Object : ByteString → List Piece → ByteString → ByteString → Syntax → ByteString → Members → Syntax
 
   -- the values behind the first, each behind a comma and blanks, with blanks behind it
   pub data Elements : Type 0 where
     NoElements : Elements
-    Element : Word → Syntax → Word → Elements → Elements
+    Element : ByteString → Syntax → ByteString → Elements → Elements
 
   -- the members behind the first, each behind a comma and blanks: its name, the blanks around its colon, its value, and blanks
   pub data Members : Type 0 where
     NoMembers : Members
-    Member : Word → List Piece → Word → Word → Syntax → Word → Members → Members
+    Member : ByteString → List Piece → ByteString → ByteString → Syntax → ByteString → Members → Members
 
 abbrev mutual
   -- how a value is spelled
-  pub spelling : Syntax → Word
+  pub spelling : Syntax → ByteString
   spelling NullWord = codes "null"
   spelling (TruthWord true) = codes "true"
   spelling (TruthWord false) = codes "false"
@@ -60,11 +60,11 @@ abbrev mutual
   spelling (EmptyObject b) = 123 ∷ b ++ 125 ∷ []
   spelling (Object b n c d v e ms) = 123 ∷ b ++ string_text n ++ c ++ 58 ∷ d ++ spelling v ++ e ++ members_spelling ms ++ 125 ∷ []
 
-  pub elements_spelling : Elements → Word
+  pub elements_spelling : Elements → ByteString
   elements_spelling NoElements = []
   elements_spelling (Element b v c es) = 44 ∷ b ++ spelling v ++ c ++ elements_spelling es
 
-  pub members_spelling : Members → Word
+  pub members_spelling : Members → ByteString
   members_spelling NoMembers = []
   members_spelling (Member b n c d v e ms) = 44 ∷ b ++ string_text n ++ c ++ 58 ∷ d ++ spelling v ++ e ++ members_spelling ms
 
@@ -133,10 +133,10 @@ abbrev mutual
   member_levels (Member b n c d v e ms) = max (levels v) (member_levels ms)
 
 -- the bytes are a JSON text of that value: one value, and blanks around it
-pub record IsText (bytes : Word) (value : Datum) : Type 0 where
-  pub before : Word
+pub record IsText (bytes : ByteString) (value : Datum) : Type 0 where
+  pub before : ByteString
   pub syntax : Syntax
-  pub behind : Word
+  pub behind : ByteString
   pub blank_before : IsTrue (are_blanks before)
   pub blank_behind : IsTrue (are_blanks behind)
   pub is_syntax : IsSyntax syntax
@@ -144,5 +144,5 @@ pub record IsText (bytes : Word) (value : Datum) : Type 0 where
   pub valued : value ≡ value_of syntax
 
 -- some JSON text begins so
-abbrev pub BeginsText : Word → Type 0
-BeginsText front = (rest : Word) × (value : Datum) × IsText (front ++ rest) value
+abbrev pub BeginsText : ByteString → Type 0
+BeginsText front = (rest : ByteString) × (value : Datum) × IsText (front ++ rest) value

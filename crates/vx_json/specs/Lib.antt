@@ -11,7 +11,7 @@ pub mod WordViews
 pub mod ModeViews
 pub mod Faults
 pub mod Puts
-pub mod Drafts
+pub mod ObjectBuilders
 pub mod Writable
 pub mod Objects
 pub mod LineEvents
@@ -19,5 +19,5 @@ pub mod LineLaws
 pub mod Runs
 pub mod Openings
 pub mod Walks
-pub mod Spots
+pub mod ProbeModes
 pub mod Probing

@@ -3,7 +3,7 @@ use Rattle.std.specs.Prelude.{ℕ, ◌+◌, ◌^◌, Bool, true, false, ◌&&◌
 use Rattle.std.specs.Fmt.{signed_decimal}
 use Rattle.std.specs.Str.Lossy.{utf8_lossy}
 use Rattle.std.specs.Str.Parse.{signed_digits_value}
-use Rattle.vx_value.specs.Texts.{Word, is_empty, same_text}
+use Rattle.vx_value.specs.Texts.{ByteString, is_empty, same_text}
 use Rattle.vx_value.specs.Datum.{Datum, Null, Truth, Whole, Spelled, Words, Items, Fields, NamedDatum, data_of, named_of}
 use Rattle.vx_value.specs.Events.{with_field}
 use Rattle.vx_json.specs.Numbers.{is_digit}
@@ -18,7 +18,7 @@ use Rattle.vx_json.specs.declared.number_place.NumberPlace.TheVariants as number
 
 -- what a byte does inside a text: it leads to a place and adds bytes, or ends the text, or is wrong there
 pub data TextMove : Type 0 where
-  Goes : TextPlace → Word → TextMove
+  Goes : TextPlace → ByteString → TextMove
   Ends : TextMove
   Wrong : TextMove
 
@@ -113,11 +113,11 @@ is_within (pos n) = nat_lt n (2 ^ 63)
 is_within (negsuc n) = nat_lt n (2 ^ 63)
 
 -- whether a text is what writing the whole number of its digits gives
-abbrev pub is_whole_text : Word → Bool
+abbrev pub is_whole_text : ByteString → Bool
 is_whole_text w = is_within (signed_digits_value 10 w) && same_text (signed_decimal (signed_digits_value 10 w)) w
 
 -- the value of a number by its text
-unfoldable pub number_datum : Word → Datum
+unfoldable pub number_datum : ByteString → Datum
 number_datum w = if is_whole_text w then Whole (signed_digits_value 10 w) else Spelled w
 
 -- ---- around values
@@ -125,7 +125,7 @@ number_datum w = if is_whole_text w then Whole (signed_digits_value 10 w) else S
 -- what is open around a place: an array with its values so far, or an object with its fields so far and the name whose value comes
 pub data Frame : Type 0 where
   InItems : List Datum → Frame
-  InFields : List NamedDatum → Word → Frame
+  InFields : List NamedDatum → ByteString → Frame
 
 -- where a reader stands
 pub data Mode : Type 0 where
@@ -138,15 +138,15 @@ pub data Mode : Type 0 where
   -- behind a comma of an object, with its fields so far
   AtName : List NamedDatum → Mode
   -- in a name
-  InName : List NamedDatum → TextPlace → Word → Mode
+  InName : List NamedDatum → TextPlace → ByteString → Mode
   -- behind a name
-  AtColon : List NamedDatum → Word → Mode
+  AtColon : List NamedDatum → ByteString → Mode
   -- behind a value
   AtEnd : Datum → Mode
   -- in a word, with what is left of it and its value
-  InWord : Word → Datum → Mode
-  InNumber : NumberPlace → Word → Mode
-  InText : TextPlace → Word → Mode
+  InWord : ByteString → Datum → Mode
+  InNumber : NumberPlace → ByteString → Mode
+  InText : TextPlace → ByteString → Mode
 
 -- where a reader stands, and what is open
 pub record State : Type 0 where
@@ -183,24 +183,24 @@ abbrev pub after_move : Datum → List Frame → ℕ → Option State
 after_move d st b = if is_blank b then state (AtEnd d) st else end_move d st b
 
 -- a byte of a name
-abbrev pub name_move : TextMove → List NamedDatum → Word → List Frame → Option State
+abbrev pub name_move : TextMove → List NamedDatum → ByteString → List Frame → Option State
 name_move (Goes next more) fs w st = state (InName fs next (w ++ more)) st
 name_move Ends fs w st = state (AtColon fs (utf8_lossy w)) st
 name_move Wrong fs w st = None
 
 -- a byte of a text
-abbrev pub words_move : TextMove → Word → List Frame → Option State
+abbrev pub words_move : TextMove → ByteString → List Frame → Option State
 words_move (Goes next more) w st = state (InText next (w ++ more)) st
 words_move Ends w st = state (AtEnd (Words (utf8_lossy w))) st
 words_move Wrong w st = None
 
 -- a byte of a number, or one behind it
-abbrev pub digits_move : Option NumberPlace → NumberPlace → Word → List Frame → ℕ → Option State
+abbrev pub digits_move : Option NumberPlace → NumberPlace → ByteString → List Frame → ℕ → Option State
 digits_move (Some next) here w st b = state (InNumber next (w ++ b ∷ [])) st
 digits_move None here w st b = if may_end here then after_move (number_datum (utf8_lossy w)) st b else None
 
 -- a byte of a word
-abbrev pub word_move : Word → Datum → List Frame → ℕ → Option State
+abbrev pub word_move : ByteString → Datum → List Frame → ℕ → Option State
 word_move [] d st b = None
 word_move (a ∷ rest) d st b = if a == b then (if is_empty rest then state (AtEnd d) st else state (InWord rest d) st) else None
 
@@ -229,12 +229,12 @@ carry None further = None
 carry (Some s) further = further s.mode s.stack
 
 -- where bytes lead to
-abbrev pub reached : Mode → List Frame → Word → Option State
+abbrev pub reached : Mode → List Frame → ByteString → Option State
 reached m st [] = state m st
 reached m st (b ∷ w) = carry (step m st b) (λ n su. reached n su w)
 
 -- the value that bytes have from a place on
-abbrev pub outcome : Mode → List Frame → Word → Option Datum
+abbrev pub outcome : Mode → List Frame → ByteString → Option Datum
 outcome m st [] = finish m st
 outcome m st (b ∷ w) = carry (step m st b) (λ n su. outcome n su w)
 

@@ -1,6 +1,6 @@
 -- What the moves of the code stand for.
 use Rattle.std.specs.Prelude.{ℕ, Bool, true, false, Option, Some, None, [], ◌∷◌, encode_utf8}
-use Rattle.vx_value.specs.Texts.{Word}
+use Rattle.vx_value.specs.Texts.{ByteString}
 use Rattle.vx_json.specs.Machine.{Goes, Ends, Wrong}
 use Rattle.vx_json.specs.Machine as machine
 use Rattle.vx_json.specs.declared.text_place.TextPlace.{TextPlace}
@@ -31,7 +31,7 @@ is_among_digits place.Escaped = false
 is_among_digits p = true
 
 -- the bytes that a move adds
-abbrev pub move_bytes : machine.TextMove → Word
+abbrev pub move_bytes : machine.TextMove → ByteString
 move_bytes (Goes q bytes) = bytes
 move_bytes Ends = []
 move_bytes Wrong = []

@@ -1,7 +1,7 @@
 -- Runs of bytes of one kind, and where they lead.
 use Rattle.std.specs.Prelude.{◌≡◌, ℕ, Bool, true, false, ◌&&◌, ◌==◌, not, nat_le, nat_lt, List, [], ◌∷◌, ◌++◌}
 use Rattle.std.specs.Str.Lossy.{utf8_lossy}
-use Rattle.vx_value.specs.Texts.{Word}
+use Rattle.vx_value.specs.Texts.{ByteString}
 use Rattle.vx_json.specs.Numbers.{is_digit}
 use Rattle.vx_json.specs.declared.number_place.NumberPlace.{NumberPlace}
 use Rattle.vx_json.specs.declared.number_place.NumberPlace.TheVariants as number
@@ -11,12 +11,12 @@ use Rattle.vx_json.specs.Machine.{Mode, Frame, state, step, height}
 abbrev pub is_plain : ℕ → Bool
 is_plain b = nat_le 32 b && (nat_lt b 128 && (not (b == 34) && not (b == 92)))
 
-abbrev pub are_plain : Word → Bool
+abbrev pub are_plain : ByteString → Bool
 are_plain [] = true
 are_plain (b ∷ w) = is_plain b && are_plain w
 
 -- whether bytes are digits
-abbrev pub all_digits : Word → Bool
+abbrev pub all_digits : ByteString → Bool
 all_digits [] = true
 all_digits (b ∷ w) = is_digit b && all_digits w
 
@@ -32,13 +32,13 @@ takes_digits number.Sign = false
 takes_digits number.Exponent = true
 
 -- plain bytes and a quote behind them, which together end a text
-pub record IsClosed (w words : Word) : Type 0 where
-  pub run : Word
+pub record IsClosed (w words : ByteString) : Type 0 where
+  pub run : ByteString
   pub plain : are_plain run ≡ true
   pub bytes : w ≡ run ++ 34 ∷ []
   pub text : words ≡ utf8_lossy run
 
 -- bytes lead from one place to another, and each of them leaves as many levels open as there were
-abbrev pub LeadsLevel : Mode → List Frame → Word → Mode → Type 0
+abbrev pub LeadsLevel : Mode → List Frame → ByteString → Mode → Type 0
 LeadsLevel m st [] n = m ≡ n
 LeadsLevel m st (b ∷ w) n = (k : Mode) × (step m st b ≡ state k st) × (height k st ≡ height m st) × LeadsLevel k st w n

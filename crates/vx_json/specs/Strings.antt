@@ -1,6 +1,6 @@
 -- The spelling of texts in JSON, character by character.
 use Rattle.std.specs.Prelude.{◌≡◌, ℕ, ◌+◌, ◌-◌, ◌*◌, Bool, false, ◌&&◌, ◌||◌, ◌==◌, nat_le, IsTrue, List, [], ◌∷◌, ◌++◌, encode_utf8, if◌then◌else◌}
-use Rattle.vx_value.specs.Texts.{Word}
+use Rattle.vx_value.specs.Texts.{ByteString}
 use Rattle.vx_value.specs.Replacement.{IsCharacter}
 
 -- whether a byte is a digit of base 16, in either case
@@ -26,12 +26,12 @@ abbrev pub code_of : Four → ℕ
 code_of h = ((hex_value h.first * 16 + hex_value h.second) * 16 + hex_value h.third) * 16 + hex_value h.fourth
 
 -- the escape of four digits
-abbrev pub escape_of : Four → Word
+abbrev pub escape_of : Four → ByteString
 escape_of h = 92 ∷ 117 ∷ h.first ∷ h.second ∷ h.third ∷ h.fourth ∷ []
 
 -- a character as it may stand in a text: as itself, by a letter behind a backslash, by four digits, or by the four digits of each of two surrogates
 pub data Piece : Type 0 where
-  Itself : Word → Piece
+  Itself : ByteString → Piece
   Short : ℕ → Piece
   Coded : Four → Piece
   Paired : Four → Four → Piece
@@ -41,7 +41,7 @@ abbrev pub is_special : ℕ → Bool
 is_special b = (b == 34) || ((b == 92) || nat_le b 31)
 
 -- whether the first byte must be escaped
-abbrev pub begins_special : Word → Bool
+abbrev pub begins_special : ByteString → Bool
 begins_special [] = false
 begins_special (b ∷ w) = is_special b
 
@@ -72,14 +72,14 @@ IsPiece (Coded h) = IsTrue (are_hex h) × (is_high (code_of h) ≡ false) × (is
 IsPiece (Paired h l) = IsTrue (are_hex h) × IsTrue (are_hex l) × IsTrue (is_high (code_of h)) × IsTrue (is_low (code_of l))
 
 -- how it is spelled
-abbrev pub piece_text : Piece → Word
+abbrev pub piece_text : Piece → ByteString
 piece_text (Itself c) = c
 piece_text (Short c) = 92 ∷ c ∷ []
 piece_text (Coded h) = escape_of h
 piece_text (Paired h l) = escape_of h ++ escape_of l
 
 -- the bytes of the character
-abbrev pub piece_bytes : Piece → Word
+abbrev pub piece_bytes : Piece → ByteString
 piece_bytes (Itself c) = c
 piece_bytes (Short c) = short_byte c ∷ []
 piece_bytes (Coded h) = encode_utf8 (code_of h)
@@ -90,14 +90,14 @@ abbrev pub ArePieces : List Piece → Type 0
 ArePieces [] = Unit {0}
 ArePieces (p ∷ ps) = IsPiece p × ArePieces ps
 
-abbrev pub pieces_text : List Piece → Word
+abbrev pub pieces_text : List Piece → ByteString
 pieces_text [] = []
 pieces_text (p ∷ ps) = piece_text p ++ pieces_text ps
 
-abbrev pub pieces_bytes : List Piece → Word
+abbrev pub pieces_bytes : List Piece → ByteString
 pieces_bytes [] = []
 pieces_bytes (p ∷ ps) = piece_bytes p ++ pieces_bytes ps
 
 -- a text between quotes
-abbrev pub string_text : List Piece → Word
+abbrev pub string_text : List Piece → ByteString
 string_text ps = 34 ∷ pieces_text ps ++ 34 ∷ []

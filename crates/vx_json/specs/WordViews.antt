@@ -1,12 +1,12 @@
 -- What the places inside the words of JSON stand for.
 use Rattle.std.specs.Prelude.{ℕ, true, false, codes}
-use Rattle.vx_value.specs.Texts.{Word}
+use Rattle.vx_value.specs.Texts.{ByteString}
 use Rattle.vx_value.specs.Datum.{Datum, Null, Truth}
 use Rattle.vx_json.specs.declared.word_place.WordPlace.{WordPlace}
 use Rattle.vx_json.specs.declared.word_place.WordPlace.TheVariants as word
 
 -- what is left of the word
-abbrev pub word_rest : WordPlace → Word
+abbrev pub word_rest : WordPlace → ByteString
 word_rest word.N = codes "ull"
 word_rest word.Nu = codes "ll"
 word_rest word.Nul = codes "l"

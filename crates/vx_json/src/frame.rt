@@ -2,7 +2,7 @@ ghost use Rattle.std.specs.Prelude.{◌≡◌, ◌≤◌, ◌∷◌, List, lengt
 ghost use Rattle.vx_value.specs.Values.{datum_of};
 ghost use Rattle.vx_json.specs.Machine as machine;
 
-use crate::draft::Draft;
+use crate::object_builder::ObjectBuilder;
 use crate::plain::named;
 use std::alloc::Global;
 use std::mem;
@@ -14,7 +14,7 @@ pub enum Frame {
     /// An array, with its values so far.
     Items(ValueList),
     /// An object, with its fields so far and the name whose value comes.
-    Fields(Draft, Text),
+    Fields(ObjectBuilder, Text),
 }
 
 impl Frame {

@@ -3,7 +3,6 @@
 
 mod codec;
 mod decoding;
-mod draft;
 mod encode;
 mod frame;
 mod json_fault;
@@ -14,14 +13,15 @@ mod mode;
 mod nesting;
 mod number_move;
 mod number_place;
+mod object_builder;
 mod plain;
 mod probe;
+mod probe_mode;
 mod probe_step;
 mod put_field;
 mod quote;
 mod reader;
 mod run;
-mod spot;
 mod step;
 mod text_move;
 mod text_place;

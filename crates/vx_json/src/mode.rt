@@ -1,5 +1,5 @@
-use crate::draft::Draft;
 use crate::number_place::NumberPlace;
+use crate::object_builder::ObjectBuilder;
 use crate::text_place::TextPlace;
 use crate::word_place::WordPlace;
 use vx_value::{Text, Value};
@@ -14,11 +14,11 @@ pub enum Mode {
     /// Behind an opening brace.
     FirstName,
     /// Behind a comma of an object, with its fields so far.
-    NextName(Draft),
+    NextName(ObjectBuilder),
     /// In a name, with the bytes that it has so far.
-    InName(Draft, TextPlace, Vec<u8>),
+    InName(ObjectBuilder, TextPlace, Vec<u8>),
     /// Behind a name.
-    Colon(Draft, Text),
+    Colon(ObjectBuilder, Text),
     /// Behind a value.
     Behind(Value),
     /// In a word.

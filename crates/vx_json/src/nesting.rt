@@ -1,5 +1,5 @@
 ghost use Rattle.std.specs.Prelude.{◌≡◌, ◌/◌, ◌%◌, ◌^◌, ◌==◌, Some, None, nat_lt, nat_le, if◌then◌else◌};
-ghost use Rattle.vx_json.specs.Spots.{opened};
+ghost use Rattle.vx_json.specs.ProbeModes.{opened};
 
 /// Behind this many the next level is one too many.
 const FULL: u64 = 0x1_0000_0000;

@@ -3,13 +3,13 @@ ghost use Rattle.vx_json.specs.Objects.{object_of};
 ghost use Rattle.vx_json.specs.Probing.{HasProbed};
 
 use crate::nesting::Nesting;
-use crate::spot::Spot;
+use crate::probe_mode::ProbeMode;
 
 /// Whether bytes that come one at a time are an object, as `read` reads one. It takes no memory.
 #[derive(Clone, Copy)]
 pub struct Probe {
     /// Where it stands. `None` where no object begins so.
-    spot: Option<Spot>,
+    probe_mode: Option<ProbeMode>,
     /// What is open there.
     nesting: Nesting,
 }
@@ -20,7 +20,7 @@ impl Probe {
         ensures { HasProbed [] result }
     {
         Probe {
-            spot: Some(Spot::Before),
+            probe_mode: Some(ProbeMode::Before),
             nesting: Nesting::none(),
         }
     }
@@ -30,8 +30,8 @@ impl Probe {
         ensures { (bytes : List ℕ) → HasProbed bytes self.old →
             HasProbed (bytes ++ byte ∷ []) self.new }
     {
-        if let Some(spot) = self.spot {
-            self.spot = spot.step(&mut self.nesting, byte);
+        if let Some(probe_mode) = self.probe_mode {
+            self.probe_mode = probe_mode.step(&mut self.nesting, byte);
         }
     }
 
@@ -39,8 +39,8 @@ impl Probe {
     pub fn is_object(&self) -> bool
         ensures { (bytes : List ℕ) → HasProbed bytes self.now → result ≡ is_some (object_of bytes) }
     {
-        match self.spot {
-            Some(spot) => spot.ends_object(&self.nesting),
+        match self.probe_mode {
+            Some(probe_mode) => probe_mode.ends_object(&self.nesting),
             None => false,
         }
     }

@@ -1,23 +1,23 @@
 ghost use Rattle.std.specs.Prelude.{◌≡◌, ℕ, ◌/◌, false};
 ghost use Rattle.vx_json.specs.Machine.{text_move};
-ghost use Rattle.vx_json.specs.Spots as spots;
-ghost use Rattle.vx_json.specs.Spots.{open_spot, begin_spot, end_spot, after_spot, spot_step, spot_ends};
+ghost use Rattle.vx_json.specs.ProbeModes as probe_modes;
+ghost use Rattle.vx_json.specs.ProbeModes.{open_probe_mode, begin_probe_mode, end_probe_mode, after_probe_mode, probe_mode_step, probe_mode_ends};
 ghost use Rattle.vx_json.specs.WordViews.{word_rest};
-ghost use Rattle.vx_json.specs.Probing.{spot_view, place_view};
+ghost use Rattle.vx_json.specs.Probing.{probe_mode_view, place_view};
 
 use crate::nesting::Nesting;
 use crate::number_move::{may_end, number_move};
 use crate::number_place::NumberPlace;
-use crate::spot::Spot;
+use crate::probe_mode::ProbeMode;
 use crate::step::{ends, is_blank, place_of};
 use crate::text_move::TextMove;
 use crate::text_place::TextPlace;
 use crate::word_place::WordPlace;
 
 /// Where a byte leads that opens a level, if one more may be open.
-fn open(nesting: &mut Nesting, is_object: bool, next: Spot) -> Option<Spot>
+fn open(nesting: &mut Nesting, is_object: bool, next: ProbeMode) -> Option<ProbeMode>
     ensures { place_view result nesting.new.kinds
-        ≡ open_spot (spot_view next) is_object nesting.old.kinds }
+        ≡ open_probe_mode (probe_mode_view next) is_object nesting.old.kinds }
 {
     if nesting.is_full() {
         return None;
@@ -27,39 +27,39 @@ fn open(nesting: &mut Nesting, is_object: bool, next: Spot) -> Option<Spot>
 }
 
 /// Where a byte leads that closes a level.
-fn close(nesting: &mut Nesting, is_object: bool) -> Option<Spot>
+fn close(nesting: &mut Nesting, is_object: bool) -> Option<ProbeMode>
     ensures { place_view result nesting.new.kinds
-        ≡ spots.stands (spots.Behind is_object) (nesting.old.kinds / 2) }
+        ≡ probe_modes.stands (probe_modes.Behind is_object) (nesting.old.kinds / 2) }
 {
     nesting.close();
-    Some(Spot::Behind(is_object))
+    Some(ProbeMode::Behind(is_object))
 }
 
 /// Where a byte leads that begins a value.
-fn begin(nesting: &mut Nesting, byte: u8) -> Option<Spot>
-    ensures { place_view result nesting.new.kinds ≡ begin_spot nesting.old.kinds byte }
+fn begin(nesting: &mut Nesting, byte: u8) -> Option<ProbeMode>
+    ensures { place_view result nesting.new.kinds ≡ begin_probe_mode nesting.old.kinds byte }
 {
     match byte {
-        b'"' => Some(Spot::InText(TextPlace::Plain)),
-        b'-' => Some(Spot::InNumber(NumberPlace::Minus)),
-        b'0' => Some(Spot::InNumber(NumberPlace::Zero)),
-        b'1'..=b'9' => Some(Spot::InNumber(NumberPlace::Whole)),
-        b'[' => open(nesting, false, Spot::FirstItem),
-        b'{' => open(nesting, true, Spot::FirstName),
-        b'n' => Some(Spot::InWord(WordPlace::N)),
-        b't' => Some(Spot::InWord(WordPlace::T)),
-        b'f' => Some(Spot::InWord(WordPlace::F)),
+        b'"' => Some(ProbeMode::InText(TextPlace::Plain)),
+        b'-' => Some(ProbeMode::InNumber(NumberPlace::Minus)),
+        b'0' => Some(ProbeMode::InNumber(NumberPlace::Zero)),
+        b'1'..=b'9' => Some(ProbeMode::InNumber(NumberPlace::Whole)),
+        b'[' => open(nesting, false, ProbeMode::FirstItem),
+        b'{' => open(nesting, true, ProbeMode::FirstName),
+        b'n' => Some(ProbeMode::InWord(WordPlace::N)),
+        b't' => Some(ProbeMode::InWord(WordPlace::T)),
+        b'f' => Some(ProbeMode::InWord(WordPlace::F)),
         _ => None,
     }
 }
 
 /// Where a byte leads behind a bracket that opens an array.
-fn first_item(nesting: &mut Nesting, byte: u8) -> Option<Spot>
+fn first_item(nesting: &mut Nesting, byte: u8) -> Option<ProbeMode>
     ensures { place_view result nesting.new.kinds
-        ≡ spot_step spots.FirstItem nesting.old.kinds byte }
+        ≡ probe_mode_step probe_modes.FirstItem nesting.old.kinds byte }
 {
     if is_blank(byte) {
-        return Some(Spot::FirstItem);
+        return Some(ProbeMode::FirstItem);
     }
     if byte == b']' {
         return close(nesting, false);
@@ -68,125 +68,125 @@ fn first_item(nesting: &mut Nesting, byte: u8) -> Option<Spot>
 }
 
 /// Where a byte leads behind a brace that opens an object.
-fn first_name(nesting: &mut Nesting, byte: u8) -> Option<Spot>
+fn first_name(nesting: &mut Nesting, byte: u8) -> Option<ProbeMode>
     ensures { place_view result nesting.new.kinds
-        ≡ spot_step spots.FirstName nesting.old.kinds byte }
+        ≡ probe_mode_step probe_modes.FirstName nesting.old.kinds byte }
 {
     if is_blank(byte) {
-        return Some(Spot::FirstName);
+        return Some(ProbeMode::FirstName);
     }
     match byte {
         b'}' => close(nesting, true),
-        b'"' => Some(Spot::InName(TextPlace::Plain)),
+        b'"' => Some(ProbeMode::InName(TextPlace::Plain)),
         _ => None,
     }
 }
 
 /// Where a byte leads behind a comma of an object.
-fn next_name(byte: u8) -> Option<Spot>
-    ensures { (n : ℕ) → place_view result n ≡ spot_step spots.NextName n byte }
+fn next_name(byte: u8) -> Option<ProbeMode>
+    ensures { (n : ℕ) → place_view result n ≡ probe_mode_step probe_modes.NextName n byte }
 {
     if is_blank(byte) {
-        return Some(Spot::NextName);
+        return Some(ProbeMode::NextName);
     }
     match byte {
-        b'"' => Some(Spot::InName(TextPlace::Plain)),
+        b'"' => Some(ProbeMode::InName(TextPlace::Plain)),
         _ => None,
     }
 }
 
 /// Where a byte leads behind a name.
-fn colon(byte: u8) -> Option<Spot>
-    ensures { (n : ℕ) → place_view result n ≡ spot_step spots.Colon n byte }
+fn colon(byte: u8) -> Option<ProbeMode>
+    ensures { (n : ℕ) → place_view result n ≡ probe_mode_step probe_modes.Colon n byte }
 {
     if is_blank(byte) {
-        return Some(Spot::Colon);
+        return Some(ProbeMode::Colon);
     }
     match byte {
-        b':' => Some(Spot::Before),
+        b':' => Some(ProbeMode::Before),
         _ => None,
     }
 }
 
 /// Where a byte leads inside a name.
-fn in_name(place: TextPlace, byte: u8) -> Option<Spot>
-    ensures { (n : ℕ) → place_view result n ≡ spot_step (spots.InName place) n byte }
+fn in_name(place: TextPlace, byte: u8) -> Option<ProbeMode>
+    ensures { (n : ℕ) → place_view result n ≡ probe_mode_step (probe_modes.InName place) n byte }
 {
     let step = TextMove::of(place, byte);
     if ends(step) {
-        return Some(Spot::Colon);
+        return Some(ProbeMode::Colon);
     }
     match place_of(step) {
-        Some(next) => Some(Spot::InName(next)),
+        Some(next) => Some(ProbeMode::InName(next)),
         None => None,
     }
 }
 
 /// Where a byte leads inside a text.
-fn in_text(place: TextPlace, byte: u8) -> Option<Spot>
-    ensures { (n : ℕ) → place_view result n ≡ spot_step (spots.InText place) n byte }
+fn in_text(place: TextPlace, byte: u8) -> Option<ProbeMode>
+    ensures { (n : ℕ) → place_view result n ≡ probe_mode_step (probe_modes.InText place) n byte }
 {
     let step = TextMove::of(place, byte);
     if ends(step) {
-        return Some(Spot::Behind(false));
+        return Some(ProbeMode::Behind(false));
     }
     match place_of(step) {
-        Some(next) => Some(Spot::InText(next)),
+        Some(next) => Some(ProbeMode::InText(next)),
         None => None,
     }
 }
 
 /// Where a byte leads inside a word.
-fn in_word(word: WordPlace, byte: u8) -> Option<Spot>
+fn in_word(word: WordPlace, byte: u8) -> Option<ProbeMode>
     ensures { (n : ℕ) →
-        place_view result n ≡ spot_step (spots.InWord (word_rest word) false) n byte }
+        place_view result n ≡ probe_mode_step (probe_modes.InWord (word_rest word) false) n byte }
 {
     if byte != word.expected() {
         return None;
     }
     Some(match word {
-        WordPlace::N => Spot::InWord(WordPlace::Nu),
-        WordPlace::Nu => Spot::InWord(WordPlace::Nul),
-        WordPlace::T => Spot::InWord(WordPlace::Tr),
-        WordPlace::Tr => Spot::InWord(WordPlace::Tru),
-        WordPlace::F => Spot::InWord(WordPlace::Fa),
-        WordPlace::Fa => Spot::InWord(WordPlace::Fal),
-        WordPlace::Fal => Spot::InWord(WordPlace::Fals),
-        WordPlace::Nul | WordPlace::Tru | WordPlace::Fals => Spot::Behind(false),
+        WordPlace::N => ProbeMode::InWord(WordPlace::Nu),
+        WordPlace::Nu => ProbeMode::InWord(WordPlace::Nul),
+        WordPlace::T => ProbeMode::InWord(WordPlace::Tr),
+        WordPlace::Tr => ProbeMode::InWord(WordPlace::Tru),
+        WordPlace::F => ProbeMode::InWord(WordPlace::Fa),
+        WordPlace::Fa => ProbeMode::InWord(WordPlace::Fal),
+        WordPlace::Fal => ProbeMode::InWord(WordPlace::Fals),
+        WordPlace::Nul | WordPlace::Tru | WordPlace::Fals => ProbeMode::Behind(false),
     })
 }
 
 /// Where a byte that is no blank leads behind a value.
-fn end(nesting: &mut Nesting, byte: u8) -> Option<Spot>
-    ensures { place_view result nesting.new.kinds ≡ end_spot nesting.old.kinds byte }
+fn end(nesting: &mut Nesting, byte: u8) -> Option<ProbeMode>
+    ensures { place_view result nesting.new.kinds ≡ end_probe_mode nesting.old.kinds byte }
 {
     let is_object = nesting.innermost()?;
     match (is_object, byte) {
-        (true, b',') => Some(Spot::NextName),
+        (true, b',') => Some(ProbeMode::NextName),
         (true, b'}') => close(nesting, true),
-        (false, b',') => Some(Spot::Before),
+        (false, b',') => Some(ProbeMode::Before),
         (false, b']') => close(nesting, false),
         _ => None,
     }
 }
 
 /// Where a byte leads behind a value.
-fn behind(nesting: &mut Nesting, is_object: bool, byte: u8) -> Option<Spot>
-    ensures { place_view result nesting.new.kinds ≡ after_spot is_object nesting.old.kinds byte }
+fn behind(nesting: &mut Nesting, is_object: bool, byte: u8) -> Option<ProbeMode>
+    ensures { place_view result nesting.new.kinds ≡ after_probe_mode is_object nesting.old.kinds byte }
 {
     if is_blank(byte) {
-        return Some(Spot::Behind(is_object));
+        return Some(ProbeMode::Behind(is_object));
     }
     end(nesting, byte)
 }
 
 /// Where a byte leads inside a number, or behind it.
-fn in_number(nesting: &mut Nesting, place: NumberPlace, byte: u8) -> Option<Spot>
+fn in_number(nesting: &mut Nesting, place: NumberPlace, byte: u8) -> Option<ProbeMode>
     ensures { place_view result nesting.new.kinds
-        ≡ spot_step (spots.InNumber place) nesting.old.kinds byte }
+        ≡ probe_mode_step (probe_modes.InNumber place) nesting.old.kinds byte }
 {
     if let Some(next) = number_move(place, byte) {
-        return Some(Spot::InNumber(next));
+        return Some(ProbeMode::InNumber(next));
     }
     if !may_end(place) {
         return None;
@@ -194,37 +194,37 @@ fn in_number(nesting: &mut Nesting, place: NumberPlace, byte: u8) -> Option<Spot
     behind(nesting, false, byte)
 }
 
-impl Spot {
+impl ProbeMode {
     /// Where a byte leads, and what is open then. `None` where no JSON text goes on so, or a level too many opens.
-    pub fn step(self, nesting: &mut Nesting, byte: u8) -> Option<Spot>
+    pub fn step(self, nesting: &mut Nesting, byte: u8) -> Option<ProbeMode>
         ensures { place_view result nesting.new.kinds
-            ≡ spot_step (spot_view self) nesting.old.kinds byte }
+            ≡ probe_mode_step (probe_mode_view self) nesting.old.kinds byte }
     {
         match self {
-            Spot::Before => {
+            ProbeMode::Before => {
                 if is_blank(byte) {
-                    return Some(Spot::Before);
+                    return Some(ProbeMode::Before);
                 }
                 begin(nesting, byte)
             }
-            Spot::FirstItem => first_item(nesting, byte),
-            Spot::FirstName => first_name(nesting, byte),
-            Spot::NextName => next_name(byte),
-            Spot::InName(place) => in_name(place, byte),
-            Spot::Colon => colon(byte),
-            Spot::Behind(is_object) => behind(nesting, is_object, byte),
-            Spot::InWord(word) => in_word(word, byte),
-            Spot::InNumber(place) => in_number(nesting, place, byte),
-            Spot::InText(place) => in_text(place, byte),
+            ProbeMode::FirstItem => first_item(nesting, byte),
+            ProbeMode::FirstName => first_name(nesting, byte),
+            ProbeMode::NextName => next_name(byte),
+            ProbeMode::InName(place) => in_name(place, byte),
+            ProbeMode::Colon => colon(byte),
+            ProbeMode::Behind(is_object) => behind(nesting, is_object, byte),
+            ProbeMode::InWord(word) => in_word(word, byte),
+            ProbeMode::InNumber(place) => in_number(nesting, place, byte),
+            ProbeMode::InText(place) => in_text(place, byte),
         }
     }
 
     /// Whether a text that is an object ends here.
     pub fn ends_object(self, nesting: &Nesting) -> bool
-        ensures { result ≡ spot_ends (spot_view self) nesting.now.kinds }
+        ensures { result ≡ probe_mode_ends (probe_mode_view self) nesting.now.kinds }
     {
         match self {
-            Spot::Behind(true) => nesting.is_empty(),
+            ProbeMode::Behind(true) => nesting.is_empty(),
             _ => false,
         }
     }

@@ -5,9 +5,9 @@ ghost use Rattle.vx_json.specs.Numbers.{is_digit};
 ghost use Rattle.vx_json.specs.Openings.{IsOpened};
 ghost use Rattle.vx_json.specs.Runs.{are_plain, all_digits, takes_digits, IsClosed, LeadsLevel};
 
-use crate::draft::Draft;
 use crate::mode::Mode;
 use crate::number_place::NumberPlace;
+use crate::object_builder::ObjectBuilder;
 use crate::plain::{closed, plain_len};
 use crate::text_place::TextPlace;
 use std::alloc::Global;
@@ -82,7 +82,7 @@ impl Opened {
     }
 
     /// Where a reader stands behind it, if it is a name.
-    fn into_name(self, fields: Draft) -> Mode
+    fn into_name(self, fields: ObjectBuilder) -> Mode
         ensures first { (w : List ℕ) → IsOpened w self → fields ≡ [] → (st : List machine.Frame) →
             LeadsLevel machine.AtFirstName st w (mode_view result) }
         ensures next { (w : List ℕ) → IsOpened w self → (st : List machine.Frame) →
@@ -197,14 +197,14 @@ impl Mode {
             },
             Mode::FirstName => match begin_quoted(alloc, bytes)? {
                 Some((opened, n)) => {
-                    *self = opened.into_name(Draft::new(alloc));
+                    *self = opened.into_name(ObjectBuilder::new(alloc));
                     Ok(n)
                 }
                 None => Ok(0),
             },
             Mode::NextName(fields) => match begin_quoted(alloc, bytes)? {
                 Some((opened, n)) => {
-                    let fields = mem::replace(fields, Draft::new(alloc));
+                    let fields = mem::replace(fields, ObjectBuilder::new(alloc));
                     *self = opened.into_name(fields);
                     Ok(n)
                 }

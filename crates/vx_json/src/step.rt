@@ -9,11 +9,11 @@ ghost use Rattle.vx_json.specs.MoveViews.{move_view, move_bytes, move_place, mov
 ghost use Rattle.vx_json.specs.ModeViews.{mode_view, stack_view, state_view};
 ghost use Rattle.vx_json.specs.WordViews.{word_rest, word_datum};
 
-use crate::draft::Draft;
 use crate::frame::Frame;
 use crate::mode::Mode;
 use crate::number_move::{may_end, number_move, number_value};
 use crate::number_place::NumberPlace;
+use crate::object_builder::ObjectBuilder;
 use crate::text_move::TextMove;
 use crate::text_place::TextPlace;
 use crate::word_place::WordPlace;
@@ -83,13 +83,13 @@ fn first_name(alloc: Global, b: u8) -> Option<Mode>
     }
     match b {
         b'}' => Some(Mode::Behind(Value::Fields(FieldList::new(alloc)))),
-        b'"' => Some(Mode::InName(Draft::new(alloc), TextPlace::Plain, Vec::new(alloc))),
+        b'"' => Some(Mode::InName(ObjectBuilder::new(alloc), TextPlace::Plain, Vec::new(alloc))),
         _ => None,
     }
 }
 
 /// Where a byte leads behind a comma of an object.
-fn next_name(alloc: Global, fields: Draft, b: u8) -> Option<Mode>
+fn next_name(alloc: Global, fields: ObjectBuilder, b: u8) -> Option<Mode>
     ensures { (st : List machine.Frame) → state_view result st ≡ step (machine.AtName fields) st b }
 {
     if is_blank(b) {
@@ -104,7 +104,7 @@ fn next_name(alloc: Global, fields: Draft, b: u8) -> Option<Mode>
 /// Where a byte leads behind a name.
 #[tactic(auto, using(crate::proofs::StackRules::stacks))]
 fn colon(
-    fields: Draft,
+    fields: ObjectBuilder,
     name: Text,
     stack: &mut Vec<Frame>,
     b: u8,
@@ -208,7 +208,7 @@ fn in_text(
 /// Where a byte leads inside a name.
 fn in_name(
     alloc: Global,
-    fields: Draft,
+    fields: ObjectBuilder,
     place: TextPlace,
     text: Vec<u8>,
     b: u8,
@@ -260,7 +260,7 @@ fn behind_item(
 #[inline(always)]
 fn behind_field(
     alloc: Global,
-    fields: Draft,
+    fields: ObjectBuilder,
     name: Text,
     value: Value,
     b: u8,

@@ -6,10 +6,10 @@ ghost use Rattle.vx_json.specs.ModeViews.{mode_view, stack_view};
 ghost use Rattle.vx_json.specs.Runs.{LeadsLevel};
 ghost use Rattle.vx_json.specs.Walks.{LeadsLow, LeadsOn, EndsInnermost, held_view};
 
-use crate::draft::Draft;
 use crate::frame::Frame;
 use crate::leaf::{leaf, number};
 use crate::mode::Mode;
+use crate::object_builder::ObjectBuilder;
 use crate::plain::named;
 use std::alloc::Global;
 use std::mem;
@@ -33,7 +33,7 @@ fn opened(stack: &mut Vec<Frame>, alloc: Global, bytes: &[u8]) -> Result<usize, 
     }
     match named(alloc, &bytes[1..])? {
         Some((name, n)) => {
-            stack.push(Frame::Fields(Draft::new(alloc), name))?;
+            stack.push(Frame::Fields(ObjectBuilder::new(alloc), name))?;
             Ok(n + 1)
         }
         None => Ok(0),

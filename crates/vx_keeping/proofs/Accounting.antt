@@ -32,7 +32,7 @@ use Rattle.vx_keeping.specs.Laws.{LeavesKept}
 use Rattle.vx_keeping.specs.Answers.{notes_of, kept_behind}
 use Rattle.vx_keeping.proofs.Weights.{count_numbers, same_counts, same_in, of_number, of_copy, in_weighs, weighs_in}
 use Rattle.vx_keeping.proofs.Staying.{made_stays, held_stays}
-use Rattle.vx_keeping.proofs.Telling.{put_out_notes}
+use Rattle.vx_keeping.proofs.Reporting.{put_out_notes}
 
 -- WEIGHTS
 -- a keeper's copies part by part

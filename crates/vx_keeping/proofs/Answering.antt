@@ -18,7 +18,7 @@ use Rattle.vx_record.specs.Places.{put_out}
 use Rattle.vx_record.specs.Places.Place.{Held}
 use Rattle.vx_record.specs.Lists.{without}
 use Rattle.vx_record.specs.Turns.{lease_now}
-use Rattle.vx_record.specs.Inputs.{Input as Told, unanswered, inputs, at_answer, answered, flush, or_flush, to_answer, is_tick, steps, steps_of}
+use Rattle.vx_record.specs.Inputs.{Input as NotedInput, unanswered, inputs, at_answer, answered, flush, or_flush, to_answer, is_tick, steps, steps_of}
 use Rattle.vx_record.specs.Transforms.{Rule, reduces, RunsBy, Discards, reduced, is_reached, IsDue}
 use Rattle.vx_record.specs.Owing.{last_discarded}
 use Rattle.vx_record.specs.Answering.{MayAnswer}
@@ -31,30 +31,30 @@ use Rattle.vx_reduce.specs.declared.reduce_settings.ReduceSettings.{ReduceSettin
 use Rattle.vx_reduce.specs.Groups.{copies_held}
 use Rattle.vx_reduce.specs.Standing.{settings_of}
 use Rattle.vx_keeping.specs.Kept.{Kept, nothing, loose_copies, copies_kept}
-use Rattle.vx_keeping.specs.Keeping.{told_at, RunsWith, IsBareOrMeant, HasGiven, Keeps, HasMade}
+use Rattle.vx_keeping.specs.Keeping.{noted_input_at, RunsWith, IsBareOrMeant, HasGiven, Keeps, HasMade}
 use Rattle.vx_keeping.specs.Answers.{Reduces, notes_of}
 use Rattle.vx_keeping.specs.Laws.{ToAnswerTaken, ToAnswerTick, ToAnswerFlush, DueIs, TickIsDue, NoTickBefore, MadeMayBeNoted, NoneKept, MayAnswerMade}
 use Rattle.vx_keeping.proofs.Ruling.{rule_there, reducing_rule}
 use Rattle.vx_keeping.proofs.Staying.{with_stays}
 use Rattle.vx_keeping.proofs.Accounting.{kept_weigh, held_none, if_self, put_or_kept, none_kept, put_out_accounts}
-use Rattle.vx_keeping.proofs.Telling.{are_noted, told_behind, notes_reduced}
+use Rattle.vx_keeping.proofs.Reporting.{are_noted, observed_behind, notes_reduced}
 use Rattle.vx_keeping.proofs.Filling.{over_filled}
-use Rattle.vx_keeping.proofs.Bearing.{to_answer_filled}
+use Rattle.vx_keeping.proofs.Carrying.{to_answer_filled}
 
 -- WHAT IS TO BE ANSWERED
 reverse_some : {X : Type 0} (xs : List X) → xs ≢ [] → reverse xs ≢ []
 reverse_some xs some none = some (sym (reverse-reverse xs) ∙ ap reverse none)
 
-or_flush_some : (xs : List Told) → xs ≢ [] → or_flush xs ≡ xs
+or_flush_some : (xs : List NotedInput) → xs ≢ [] → or_flush xs ≡ xs
 or_flush_some [] some = absurd (some refl)
 or_flush_some (x ∷ xs) some = refl
 
-pub unticked : (xs : List Told) → list_any (λ (x : Told). is_tick x.step) xs ≡ false → filter (λ (x : Told). not (is_tick x.step)) xs ≡ xs
+pub unticked : (xs : List NotedInput) → list_any (λ (x : NotedInput). is_tick x.step) xs ≡ false → filter (λ (x : NotedInput). not (is_tick x.step)) xs ≡ xs
 unticked [] none = refl
 unticked (x ∷ xs) none = go (is_tick x.step) none (λ is. unticked xs is)
   where
-    go : (b : Bool) → (b || list_any (λ (x : Told). is_tick x.step) xs) ≡ false → (list_any (λ (x : Told). is_tick x.step) xs ≡ false → filter (λ (x : Told). not (is_tick x.step)) xs ≡ xs) →
-        cond (not b) (x ∷ filter (λ (x : Told). not (is_tick x.step)) xs) (filter (λ (x : Told). not (is_tick x.step)) xs) ≡ x ∷ xs
+    go : (b : Bool) → (b || list_any (λ (x : NotedInput). is_tick x.step) xs) ≡ false → (list_any (λ (x : NotedInput). is_tick x.step) xs ≡ false → filter (λ (x : NotedInput). not (is_tick x.step)) xs ≡ xs) →
+        cond (not b) (x ∷ filter (λ (x : NotedInput). not (is_tick x.step)) xs) (filter (λ (x : NotedInput). not (is_tick x.step)) xs) ≡ x ∷ xs
     go true is ih = absurd cc
     go false is ih = ap (λ l. x ∷ l) (ih is)
 
@@ -63,28 +63,28 @@ to_answer_taken h i none some = or_flush_some (reverse (unanswered h i)) (revers
 
 pub to_answer_tick : ToAnswerTick
 to_answer_tick h i now none =
-    ap (λ (xs : List Told). or_flush (reverse (xs ++ unanswered h i))) (if_self i (tick ∷ []) [])
+    ap (λ (xs : List NotedInput). or_flush (reverse (xs ++ unanswered h i))) (if_self i (tick ∷ []) [])
     ∙ ap or_flush (reverse-append (tick ∷ []) (unanswered h i))
     ∙ or_flush_some (reverse (unanswered h i) ++ tick ∷ []) (not_empty (reverse (unanswered h i)))
-    ∙ ap (λ (xs : List Told). reverse xs ++ tick ∷ []) (sym (unticked (unanswered h i) none))
+    ∙ ap (λ (xs : List NotedInput). reverse xs ++ tick ∷ []) (sym (unticked (unanswered h i) none))
   where
-    tick : Told
+    tick : NotedInput
     tick = record { step = ticks now; copies = [] }
 
-    not_empty : (xs : List Told) → (xs ++ tick ∷ []) ≢ []
+    not_empty : (xs : List NotedInput) → (xs ++ tick ∷ []) ≢ []
     not_empty [] is = cc
     not_empty (x ∷ xs) is = cc
 
 pub to_answer_flush : ToAnswerFlush
 to_answer_flush h i none =
-    (ap (λ (xs : List Told). reverse (filter (λ (x : Told). not (is_tick x.step)) xs)) none, ap (λ (xs : List Told). or_flush (reverse xs)) none)
+    (ap (λ (xs : List NotedInput). reverse (filter (λ (x : NotedInput). not (is_tick x.step)) xs)) none, ap (λ (xs : List NotedInput). or_flush (reverse xs)) none)
 
 -- WHEN A TICK IS DUE
 pub due_is : DueIs
 due_is h i soonest s none r due_behind =
     due_behind.moment s r
-    ∙ ap (λ (xs : List Told). due s (steps_of (xs ++ answered h i))) (ap reverse (ap reverse (unticked (unanswered h i) none)) ∙ reverse-reverse (unanswered h i))
-    ∙ ap (λ (xs : List Told). due s (steps_of xs)) (sym (inputs_parted h i))
+    ∙ ap (λ (xs : List NotedInput). due s (steps_of (xs ++ answered h i))) (ap reverse (ap reverse (unticked (unanswered h i) none)) ∙ reverse-reverse (unanswered h i))
+    ∙ ap (λ (xs : List NotedInput). due s (steps_of xs)) (sym (inputs_parted h i))
 
 pub tick_is_due : TickIsDue
 tick_is_due h i moment now none due_behind reached =
@@ -118,7 +118,7 @@ nothing_kept k loose taken groups shelf =
     ∙ ap (λ (sh : Shelved). copies_put_out sh.outputs ++ copies_dropped sh.dropped) shelf
 
 -- where the instance holds something, it runs by a rule that reduces
-runs_there : (k : Kept) (h : Record) (i : ℕ) (behind : List Told) → IsLegal h → HasMade k h i behind → at h (Held i) ≢ [] → Reduces h i
+runs_there : (k : Kept) (h : Record) (i : ℕ) (behind : List NotedInput) → IsLegal h → HasMade k h i behind → at h (Held i) ≢ [] → Reduces h i
 runs_there k h i behind legal made some = go made.given.meant
   where
     go : IsBareOrMeant k → Reduces h i
@@ -151,7 +151,7 @@ made_may_be_noted k h i legal made = record {
 }
 
 -- what is on its shelf is put out
-none_dropped : (k : Kept) (h : Record) (i : ℕ) (behind : List Told) → HasGiven k h i behind → k.shelf.dropped ≡ []
+none_dropped : (k : Kept) (h : Record) (i : ℕ) (behind : List NotedInput) → HasGiven k h i behind → k.shelf.dropped ≡ []
 none_dropped k h i behind g = go g.meant
   where
     go : IsBareOrMeant k → k.shelf.dropped ≡ []
@@ -204,7 +204,7 @@ may_answer_made k h i legal out made some flushes =
     }
 
 -- BEHIND THE ANSWER
-flush_first : (u : List Told) (j : Bool) → j ≡ true → (cond (j && is_empty u) (flush ∷ []) [] ++ []) ++ u ≡ reverse (or_flush (reverse u))
+flush_first : (u : List NotedInput) (j : Bool) → j ≡ true → (cond (j && is_empty u) (flush ∷ []) [] ++ []) ++ u ≡ reverse (or_flush (reverse u))
 flush_first [] true is = refl
 flush_first (x ∷ u) true is = sym (reverse-reverse (x ∷ u)) ∙ ap reverse (sym (or_flush_some (reverse (x ∷ u)) (reverse_some (x ∷ u) (λ none. cc))))
 flush_first u false is = absurd cc
@@ -213,9 +213,9 @@ answered_then : (h : Record) (i : ℕ) (outputs : List NotedOutput) (discarded k
 answered_then h i outputs discarded kept =
     let self : (i == i) ≡ true = grind (arith, nat_tests) in
     ap (λ (g : Record). inputs g i) (if_self i (Answer i outputs discarded kept ∷ h) (at_answer h i))
-    ∙ ap (λ (xs : List Told). (cond ((i == i) && is_empty (unanswered h i)) (flush ∷ []) [] ++ []) ++ xs) (inputs_parted h i)
+    ∙ ap (λ (xs : List NotedInput). (cond ((i == i) && is_empty (unanswered h i)) (flush ∷ []) [] ++ []) ++ xs) (inputs_parted h i)
     ∙ sym (append_assoc (cond ((i == i) && is_empty (unanswered h i)) (flush ∷ []) [] ++ []) (unanswered h i) (answered h i))
-    ∙ ap (λ (xs : List Told). xs ++ answered h i) (flush_first (unanswered h i) (i == i) self)
+    ∙ ap (λ (xs : List NotedInput). xs ++ answered h i) (flush_first (unanswered h i) (i == i) self)
 
 module _ (old new : Kept) (h : Record) (i : ℕ) (kept : List ℕ) (is : new ≡ record old { shelf = nothing }) (made : HasMade old h i (to_answer h i)) (legal : IsLegal (Answer i (notes_of old.shelf.outputs) [] kept ∷ h)) where
   abbrev entry : Entry
@@ -227,7 +227,7 @@ module _ (old new : Kept) (h : Record) (i : ℕ) (kept : List ℕ) (is : new ≡
         set = with_stays h i entry (settings_of old.reduce) legal g.set;
         earlier = reverse g.more ++ g.earlier;
         more = [];
-        answered = told_behind g.more g.earlier ∙ ap₂ (λ xs ys. reverse xs ++ ys) g.given g.answered ∙ sym (answered_then h i (notes_of old.shelf.outputs) [] kept);
+        answered = observed_behind g.more g.earlier ∙ ap₂ (λ xs ys. reverse xs ++ ys) g.given g.answered ∙ sym (answered_then h i (notes_of old.shelf.outputs) [] kept);
         given = refl;
         stands = λ s r. g.stands s (record { component = r.component; runs = r.runs; transform = r.transform; tests = r.tests; mean = r.mean; ruled = r.ruled });
         shelf = λ s r. refl;
@@ -249,7 +249,7 @@ module _ (old new : Kept) (h : Record) (i : ℕ) (kept : List ℕ) (is : new ≡
       given = then_given;
       bare = refl;
       taken =
-          ap (map (told_at (lease_now h i))) made.taken
-          ∙ sym (ap (λ (xs : List Told). reverse (filter (λ (x : Told). not (is_tick x.step)) xs)) (if_self i [] (unanswered h i)));
+          ap (map (noted_input_at (lease_now h i))) made.taken
+          ∙ sym (ap (λ (xs : List NotedInput). reverse (filter (λ (x : NotedInput). not (is_tick x.step)) xs)) (if_self i [] (unanswered h i)));
     };
   })

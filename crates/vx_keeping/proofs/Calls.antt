@@ -17,7 +17,7 @@ use Rattle.vx_record.specs.Records.{Record}
 use Rattle.vx_record.specs.Copies.{count, joined}
 use Rattle.vx_record.specs.Turns.{lease_now}
 use Rattle.vx_record.specs.Places.Place.{Held}
-use Rattle.vx_record.specs.Inputs.{Input as Told, unanswered, inputs, answered, to_answer, is_tick, steps_of}
+use Rattle.vx_record.specs.Inputs.{Input as NotedInput, unanswered, inputs, answered, to_answer, is_tick, steps_of}
 use Rattle.vx_record.specs.Shifts.{at}
 use Rattle.vx_record.specs.Legal.{IsLegal}
 use Rattle.vx_record.proofs.Answers.{inputs_parted}
@@ -35,15 +35,15 @@ use Rattle.vx_keeping.specs.declared.store.Store.{Store}
 use Rattle.vx_keeping.specs.Kept.{Kept, nothing, loose_copies, copies_kept}
 use Rattle.vx_keeping.specs.Given.{arrived_all, SameCopies, IsGiven}
 use Rattle.vx_keeping.specs.Stored.{with_shelf, shelf_of, copies_stored, kept_of, IsBare, IsSettled}
-use Rattle.vx_keeping.specs.Keeping.{Accounts, told, told_at, taken_in, RunsWith, IsBareOrMeant, HasGiven, IsAbreast, Keeps, HasMade}
+use Rattle.vx_keeping.specs.Keeping.{Accounts, noted_input, noted_input_at, taken_in, RunsWith, IsBareOrMeant, HasGiven, IsAbreast, Keeps, HasMade}
 use Rattle.vx_keeping.specs.Answers.{Reduces, notes_of, IsDueBehind, GivesUp}
 use Rattle.vx_keeping.proofs.Weights.{dropped-append, put_out-append, no_copies}
 use Rattle.vx_keeping.proofs.Ruling.{settings_mean, rule_there}
 use Rattle.vx_keeping.proofs.Staying.{map_none}
 use Rattle.vx_keeping.proofs.Accounting.{kept_weigh, held_none, lost_there, lost_made, lost_leads}
-use Rattle.vx_keeping.proofs.Telling.{told_behind, steps_told}
+use Rattle.vx_keeping.proofs.Reporting.{observed_behind, steps_observed}
 use Rattle.vx_keeping.proofs.Filling.{groups_have, no_groups}
-use Rattle.vx_keeping.proofs.Bearing.{answered_filled, taken_filled}
+use Rattle.vx_keeping.proofs.Carrying.{answered_filled, taken_filled}
 use Rattle.vx_keeping.proofs.Popping.{parts_none}
 use Rattle.vx_keeping.proofs.Going.{unfit_keeps, short_keeps, made_on, answer_makes, take_accounts, take_abreast}
 use Rattle.vx_keeping.proofs.Storing.{has_none}
@@ -71,8 +71,8 @@ new_keeps store settings taken shelf none since set h i runs given holds = recor
     };
     bare = shelf;
     taken =
-        ap (map (told_at (lease_now h i))) taken
-        ∙ sym (ap (λ (xs : List Told). reverse (filter (λ (x : Told). not (is_tick x.step)) xs)) parts.0);
+        ap (map (noted_input_at (lease_now h i))) taken
+        ∙ sym (ap (λ (xs : List NotedInput). reverse (filter (λ (x : NotedInput). not (is_tick x.step)) xs)) parts.0);
   };
 }
   where
@@ -114,8 +114,8 @@ turned false is = absurd cc
 pub has_taken_then : (k : Kept) (none : Bool) → IsTrue none ↔ (k.taken.items ≡ []) → k.fit ≡ true → (h : Record) (i : ℕ) → Keeps k h i → (not none ≡ false) ↔ (taken_in h i ≡ [])
 has_taken_then k none says fits h i keeps =
     let a = keeps.abreast fits in (
-      λ is. sym a.taken ∙ ap (map (told_at (lease_now h i))) (says.0 (turned none is)),
-      λ gone. ap not (says.1 (map_none (told_at (lease_now h i)) k.taken.items (a.taken ∙ gone))),
+      λ is. sym a.taken ∙ ap (map (noted_input_at (lease_now h i))) (says.0 (turned none is)),
+      λ gone. ap not (says.1 (map_none (noted_input_at (lease_now h i)) k.taken.items (a.taken ∙ gone))),
     )
 
 -- PUT OUT
@@ -175,7 +175,7 @@ bare_then store loose fit h i fits legal keeps none = record {
         let rule = rule_there h i m.0 (settings_of store.reduce) g.set m.1 in
         let given : List Input = reverse g.more ++ g.earlier in
         let is = g.stands rule.0 rule.1 in
-        let same : given ≡ g.earlier = ap (λ (l : List Input). reverse l ++ g.earlier) (map_none told g.more g.given) in
+        let same : given ≡ g.earlier = ap (λ (l : List Input). reverse l ++ g.earlier) (map_none noted_input g.more g.given) in
         let at_earlier : IsAt rule.0 g.earlier store.reduce = subst (λ l. IsAt rule.0 l store.reduce) same is in
         at_earlier.held
         ∙ no_groups rule.0 g.earlier (groups rule.0 (reduce_steps g.earlier)) (groups_have rule.0 g.earlier (answered_filled h i g.earlier legal g.answered))
@@ -219,11 +219,11 @@ empty_unfit store loose fit answer unfit settled says h i legal keeps = (
 due_none : (r : Reduce) → r.groups ≡ [] → due_of r ≡ None
 due_none r none = ap (λ (gs : List Group). cond (is_empty gs) None (Some (held (r.since + r.flush_period_ms)))) none
 
-pub due_behind : (k : Kept) (moment : Option ℕ) → moment ≡ due_of k.reduce → IsDueAt k.reduce moment → (h : Record) (i : ℕ) (behind : List Told) → HasGiven k h i behind → IsDueBehind moment h i behind
+pub due_behind : (k : Kept) (moment : Option ℕ) → moment ≡ due_of k.reduce → IsDueAt k.reduce moment → (h : Record) (i : ℕ) (behind : List NotedInput) → HasGiven k h i behind → IsDueBehind moment h i behind
 due_behind k moment is stands h i behind g = record {
   moment = λ s r.
       stands s (reverse g.more ++ g.earlier) (g.stands s r)
-      ∙ ap (due s) (sym (steps_told (reverse g.more ++ g.earlier)) ∙ ap steps_of (told_behind g.more g.earlier) ∙ ap₂ (λ xs ys. steps_of (reverse xs ++ ys)) g.given g.answered);
+      ∙ ap (due s) (sym (steps_observed (reverse g.more ++ g.earlier)) ∙ ap steps_of (observed_behind g.more g.earlier) ∙ ap₂ (λ xs ys. steps_of (reverse xs ++ ys)) g.given g.answered);
   runs = λ some. go some g.meant;
 }
   where
@@ -243,7 +243,7 @@ answer_then now old new loose fit fits none given same taken = answer_makes now 
 
 -- a tick, and the flush
 pub more_then : (xs : List Input) (old new : Store) (loose : Option Copy) (fit : Bool) → fit ≡ true → loose ≡ None → IsGiven xs old.reduce new.reduce (shelf_of old) (shelf_of new) → SameCopies (copies_stored old) (copies_stored new) →
-    new.taken ≡ old.taken → (h : Record) (i : ℕ) (behind : List Told) → HasMade (kept_of old loose fit) h i behind → HasMade (kept_of new loose fit) h i (behind ++ map told xs)
+    new.taken ≡ old.taken → (h : Record) (i : ℕ) (behind : List NotedInput) → HasMade (kept_of old loose fit) h i behind → HasMade (kept_of new loose fit) h i (behind ++ map noted_input xs)
 more_then xs old new loose fit fits none given same taken = made_on (kept_of old loose fit) (kept_of new loose fit) xs given (with_loose loose old new same) taken fits none
 
 -- no memory was found for one of the three

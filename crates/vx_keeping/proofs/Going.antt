@@ -16,7 +16,7 @@ use Rattle.vx_record.specs.Copies.{count, joined}
 use Rattle.vx_record.specs.Turns.{lease_now}
 use Rattle.vx_record.specs.Places.Place.{Held}
 use Rattle.vx_record.specs.Parcels.{event_of, first_copy, parcel_event}
-use Rattle.vx_record.specs.Inputs.{Input as Told, unanswered, answered, is_tick}
+use Rattle.vx_record.specs.Inputs.{Input as NotedInput, unanswered, answered, is_tick}
 use Rattle.vx_record.specs.Transforms.{reduces}
 use Rattle.vx_record.specs.Shifts.{at}
 use Rattle.vx_record.specs.Legal.{IsLegal}
@@ -29,7 +29,7 @@ use Rattle.vx_reduce.specs.Inputs.{Input, outputs_over}
 use Rattle.vx_reduce.specs.Standing.{settings_of, IsAt, IsMeant}
 use Rattle.vx_keeping.specs.Kept.{Kept, nothing, copies_kept}
 use Rattle.vx_keeping.specs.Given.{arrived_all, SameCopies, StaysBare, IsGiven}
-use Rattle.vx_keeping.specs.Keeping.{IsMade, Accounts, told, told_at, taken_in, RunsWith, IsBareOrMeant, HasGiven, IsAbreast, Keeps, HasMade}
+use Rattle.vx_keeping.specs.Keeping.{IsMade, Accounts, noted_input, noted_input_at, taken_in, RunsWith, IsBareOrMeant, HasGiven, IsAbreast, Keeps, HasMade}
 use Rattle.vx_keeping.specs.Laws.{KeepsStays, MadeStays, NoneTaken}
 use Rattle.vx_keeping.proofs.Weights.{of_copy, in_weighs, weighs_in, count_numbers, of_number}
 use Rattle.vx_keeping.proofs.Inputs.{reverse_both, over_append, put_twice, meant_still}
@@ -39,7 +39,7 @@ use Rattle.vx_keeping.proofs.Accounting.{accounts_moved, accounts_stay, take_fil
 
 -- WHAT IT WAS GIVEN
 -- some inputs more
-module _ (old new : Kept) (h : Record) (i : ℕ) (behind : List Told) (xs : List Input) (g : HasGiven old h i behind) (step : IsGiven xs old.reduce new.reduce old.shelf new.shelf) (loose : new.loose ≡ None) where
+module _ (old new : Kept) (h : Record) (i : ℕ) (behind : List NotedInput) (xs : List Input) (g : HasGiven old h i behind) (step : IsGiven xs old.reduce new.reduce old.shelf new.shelf) (loose : new.loose ≡ None) where
   meant_on : IsBareOrMeant new
   meant_on = go g.meant step.meant
     where
@@ -48,13 +48,13 @@ module _ (old new : Kept) (h : Record) (i : ℕ) (behind : List Told) (xs : List
       go (inl bare) (inr f) = let b = f bare.0 in inl (b.0, b.1 ∙ bare.1)
       go (inr m) other = inr (meant_still old.reduce new.reduce step.set m)
 
-  pub given_on : HasGiven new h i (behind ++ map told xs)
+  pub given_on : HasGiven new h i (behind ++ map noted_input xs)
   given_on = record {
     set = subst (λ (s : ReduceSettings). RunsWith h i s) (sym step.set) g.set;
     earlier = g.earlier;
     more = g.more ++ xs;
     answered = g.answered;
-    given = map-append told g.more xs ∙ ap (λ l. l ++ map told xs) g.given;
+    given = map-append noted_input g.more xs ∙ ap (λ l. l ++ map noted_input xs) g.given;
     stands = λ s r. subst (λ l. IsAt s l new.reduce) (sym (reverse_both g.more xs g.earlier)) (step.stands s (reverse g.more ++ g.earlier) (g.stands s r));
     shelf = λ s r.
         step.shelf s (reverse g.more ++ g.earlier) (g.stands s r)
@@ -66,7 +66,7 @@ module _ (old new : Kept) (h : Record) (i : ℕ) (behind : List Told) (xs : List
   }
 
 -- an entry that answers nothing of it
-pub given_stays : (k : Kept) (h : Record) (i : ℕ) (e : Entry) (behind : List Told) → IsLegal (e ∷ h) → answered (e ∷ h) i ≡ answered h i → HasGiven k h i behind → HasGiven k (e ∷ h) i behind
+pub given_stays : (k : Kept) (h : Record) (i : ℕ) (e : Entry) (behind : List NotedInput) → IsLegal (e ∷ h) → answered (e ∷ h) i ≡ answered h i → HasGiven k h i behind → HasGiven k (e ∷ h) i behind
 given_stays k h i e behind legal same g = record {
   set = with_stays h i e (settings_of k.reduce) legal g.set;
   earlier = g.earlier;
@@ -102,7 +102,7 @@ pub none_taken : NoneTaken
 none_taken k h i keeps fit none = let a = keeps.abreast fit in record {
   accounts = keeps.accounts;
   fit = fit;
-  taken = map_none (told_at (lease_now h i)) k.taken.items (a.taken ∙ none);
+  taken = map_none (noted_input_at (lease_now h i)) k.taken.items (a.taken ∙ none);
   given = a.given;
 }
 
@@ -116,7 +116,7 @@ short_keeps old new unfit same h i accounts = unfit_keeps new h i unfit (account
 
 -- more is made
 pub made_on : (old new : Kept) (xs : List Input) → IsGiven xs old.reduce new.reduce old.shelf new.shelf → SameCopies (copies_kept old) (copies_kept new) → new.taken ≡ old.taken → new.fit ≡ true → new.loose ≡ None →
-    (h : Record) (i : ℕ) (behind : List Told) → HasMade old h i behind → HasMade new h i (behind ++ map told xs)
+    (h : Record) (i : ℕ) (behind : List NotedInput) → HasMade old h i behind → HasMade new h i (behind ++ map noted_input xs)
 made_on old new xs step same taken fit loose h i behind made = record {
   accounts = accounts_moved old new h i same made.accounts;
   fit = fit;
@@ -125,9 +125,9 @@ made_on old new xs step same taken fit loose h i behind made = record {
 }
 
 -- all that was taken is given
-arrived_told : (now : ℕ) (ps : List Parcel) → map told (arrived_all now ps) ≡ map (told_at now) ps
-arrived_told now [] = refl
-arrived_told now (p ∷ ps) = ap (λ l. told_at now p ∷ l) (arrived_told now ps)
+arrived_observed : (now : ℕ) (ps : List Parcel) → map noted_input (arrived_all now ps) ≡ map (noted_input_at now) ps
+arrived_observed now [] = refl
+arrived_observed now (p ∷ ps) = ap (λ l. noted_input_at now p ∷ l) (arrived_observed now ps)
 
 pub answer_makes : (now : ℕ) (old new : Kept) → old.fit ≡ true → IsGiven (arrived_all now old.taken.items) old.reduce new.reduce old.shelf new.shelf → SameCopies (copies_kept old) (copies_kept new) → new.taken.items ≡ [] → new.fit ≡ true →
     new.loose ≡ None → (h : Record) (i : ℕ) → now ≡ lease_now h i → Keeps old h i → HasMade new h i (taken_in h i)
@@ -137,7 +137,7 @@ answer_makes now old new was step same taken fit loose h i moment keeps = record
   taken = taken;
   given =
       let a = keeps.abreast was in
-      subst (HasGiven new h i) (arrived_told now old.taken.items ∙ ap (λ n. map (told_at n) old.taken.items) moment ∙ a.taken)
+      subst (HasGiven new h i) (arrived_observed now old.taken.items ∙ ap (λ n. map (noted_input_at n) old.taken.items) moment ∙ a.taken)
       (given_on old new h i [] (arrived_all now old.taken.items) a.given step loose);
 }
 
@@ -197,17 +197,17 @@ module _ (old new : Kept) (parcel : Parcel) (h : Record) (i s : ℕ) (legal : Is
         });
     bare = a.bare;
     taken =
-        map-append (told_at (lease_now h i)) old.taken.items (parcel ∷ [])
-        ∙ ap (λ l. l ++ told_at (lease_now h i) parcel ∷ []) a.taken
+        map-append (noted_input_at (lease_now h i)) old.taken.items (parcel ∷ [])
+        ∙ ap (λ l. l ++ noted_input_at (lease_now h i) parcel ∷ []) a.taken
         ∙ ap (λ x. taken_in h i ++ x ∷ []) (sym same)
-        ∙ sym (reverse-append (x ∷ []) (filter (λ (x : Told). not (is_tick x.step)) (unanswered h i)))
-        ∙ ap (λ (xs : List Told). reverse (filter (λ (x : Told). not (is_tick x.step)) (xs ++ unanswered h i))) (sym (if_self i (x ∷ []) []));
+        ∙ sym (reverse-append (x ∷ []) (filter (λ (x : NotedInput). not (is_tick x.step)) (unanswered h i)))
+        ∙ ap (λ (xs : List NotedInput). reverse (filter (λ (x : NotedInput). not (is_tick x.step)) (xs ++ unanswered h i))) (sym (if_self i (x ∷ []) []));
   })
     where
-      x : Told
+      x : NotedInput
       x = record { step = comes (parcel_event h (numbers_of parcel.finalizers)) (lease_now h i); copies = numbers_of parcel.finalizers }
 
-      same : x ≡ told_at (lease_now h i) parcel
+      same : x ≡ noted_input_at (lease_now h i) parcel
       same =
-          let f : Event → Told = λ e. record { step = comes e (lease_now h i); copies = numbers_of parcel.finalizers } in
+          let f : Event → NotedInput = λ e. record { step = comes e (lease_now h i); copies = numbers_of parcel.finalizers } in
           ap f (event_is parcel.finalizers (take_filled h i s (numbers_of parcel.finalizers) legal) (λ copy in_it. (known parcel.event copy (inl (refl, in_it))).said))

@@ -2,10 +2,10 @@ pub mod Weights
 pub mod Inputs
 pub mod Ruling
 pub mod Staying
-pub mod Telling
+pub mod Reporting
 pub mod Filling
 pub mod Accounting
-pub mod Bearing
+pub mod Carrying
 pub mod Going
 pub mod Answering
 pub mod Popping

@@ -15,7 +15,7 @@ use Rattle.vx_record.specs.Records.{Record}
 use Rattle.vx_record.specs.Copies.{count, contains, joined}
 use Rattle.vx_record.specs.Places.{put_out}
 use Rattle.vx_record.specs.Parcels.{event_of, output_with, said_by}
-use Rattle.vx_record.specs.Inputs.{Input as Told}
+use Rattle.vx_record.specs.Inputs.{Input as NotedInput}
 use Rattle.vx_record.specs.Legal.{IsLegal}
 use Rattle.vx_record.specs.Tasks.{is_of}
 use Rattle.vx_record.specs.Makers.{Spares}
@@ -50,7 +50,7 @@ module _ (i : ℕ) (old : Record) (legal : IsLegal old) where
   keeps_added k [] each keeps = keeps
   keeps_added k (e ∷ es) each keeps = keeps_stays k (es ++ old) i e (added_legal (e ∷ es) each) (spares_leave (es ++ old) i e each.0.kind) (keeps_added k es each.1 keeps)
 
-  made_added : (k : Kept) (given : List Told) (added : List Entry) → Each (Spares i) added old → HasMade k old i given → HasMade k (added ++ old) i given
+  made_added : (k : Kept) (given : List NotedInput) (added : List Entry) → Each (Spares i) added old → HasMade k old i given → HasMade k (added ++ old) i given
   made_added k given [] each made = made
   made_added k given (e ∷ es) each made =
       made_keeps k (es ++ old) i e given (added_legal (e ∷ es) each) (spares_leave (es ++ old) i e each.0.kind) (made_added k given es each.1 made)

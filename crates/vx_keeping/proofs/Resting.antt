@@ -8,16 +8,16 @@ use Rattle.vx_condition.specs.Steps.{comes, ticks}
 use Rattle.vx_record.specs.declared.entry.Entry.TheVariants.{Take, Tick, Answer}
 use Rattle.vx_record.specs.Turns.{lease_now}
 use Rattle.vx_record.specs.Parcels.{parcel_event}
-use Rattle.vx_record.specs.Inputs.{Input as Told, unanswered, is_tick, has_tick}
+use Rattle.vx_record.specs.Inputs.{Input as NotedInput, unanswered, is_tick, has_tick}
 use Rattle.vx_reduce.specs.Groups.{copies_held, put_all}
 use Rattle.vx_reduce.specs.Inputs.{Input, outputs_over}
 use Rattle.vx_reduce.specs.Standing.{settings_of}
 use Rattle.vx_keeping.specs.Kept.{nothing, loose_copies}
-use Rattle.vx_keeping.specs.Keeping.{told, told_at, IsBareOrMeant}
+use Rattle.vx_keeping.specs.Keeping.{noted_input, noted_input_at, IsBareOrMeant}
 use Rattle.vx_keeping.specs.Laws.{TicksStay, NothingGiven, NothingMade, HoldsNothing, NothingTaken}
 use Rattle.vx_keeping.proofs.Ruling.{rule_there}
 use Rattle.vx_keeping.proofs.Staying.{map_none}
-use Rattle.vx_keeping.proofs.Bearing.{taken_filled}
+use Rattle.vx_keeping.proofs.Carrying.{taken_filled}
 use Rattle.vx_keeping.proofs.Popping.{parts_none}
 use Rattle.vx_keeping.proofs.Answering.{unticked}
 use Rattle.vx_keeping.proofs.Calls.{all_gone, none_there, no_parcels}
@@ -43,7 +43,7 @@ ticks_stay h i e other none = none
 
 -- NOTHING WAS TAKEN
 pub nothing_given : NothingGiven
-nothing_given h i none taken = sym (unticked (unanswered h i) none) ∙ sym (reverse-reverse (filter (λ (x : Told). not (is_tick x.step)) (unanswered h i))) ∙ ap reverse taken
+nothing_given h i none taken = sym (unticked (unanswered h i) none) ∙ sym (reverse-reverse (filter (λ (x : NotedInput). not (is_tick x.step)) (unanswered h i))) ∙ ap reverse taken
 
 pub nothing_made : NothingMade
 nothing_made k h i made none = record {
@@ -51,7 +51,7 @@ nothing_made k h i made none = record {
   abreast = λ fit. record {
     given = made.given;
     bare = bare made.given.meant;
-    taken = ap (map (told_at (lease_now h i))) made.taken ∙ sym none;
+    taken = ap (map (noted_input_at (lease_now h i))) made.taken ∙ sym none;
   };
 }
   where
@@ -60,7 +60,7 @@ nothing_made k h i made none = record {
     bare (inr m) =
         let g = made.given in
         let rule = rule_there h i m.0 (settings_of k.reduce) g.set m.1 in
-        g.shelf rule.0 rule.1 ∙ ap (λ (more : List Input). put_all nothing (outputs_over rule.0 g.earlier more)) (map_none told g.more g.given)
+        g.shelf rule.0 rule.1 ∙ ap (λ (more : List Input). put_all nothing (outputs_over rule.0 g.earlier more)) (map_none noted_input g.more g.given)
 
 -- NOTHING IS HELD
 pub holds_nothing : HoldsNothing
@@ -73,4 +73,4 @@ nothing_taken k h i legal keeps fit none =
     let stored = (parts_none (loose_copies k.loose) (copies_held k.reduce.groups ++ (copies_dropped k.taken.items ++ copies_on k.shelf)) all).1 in
     let behind = (parts_none (copies_held k.reduce.groups) (copies_dropped k.taken.items ++ copies_on k.shelf) stored).1 in
     let parcels = no_parcels k.taken.items (taken_filled h i (lease_now h i) k.taken.items legal a.taken) (parts_none (copies_dropped k.taken.items) (copies_on k.shelf) behind).0 in
-    sym a.taken ∙ ap (map (told_at (lease_now h i))) parcels
+    sym a.taken ∙ ap (map (noted_input_at (lease_now h i))) parcels

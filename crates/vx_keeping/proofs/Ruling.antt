@@ -1,6 +1,6 @@
 -- The rule of an instance, and what the settings of its reduce mean.
 use Rattle.std.proofs.Common.{◌≡◌, ℕ, true, false, Option, Some, None, List, [], ◌∷◌, ◌++◌, length, drop, refl, sym, ap, ◌∙◌, subst}
-use Rattle.vx_value.specs.Texts.{Word}
+use Rattle.vx_value.specs.Texts.{ByteString}
 use Rattle.vx_condition.specs.Steps.{Test}
 use Rattle.vx_condition.specs.Reducing.{Settings}
 use Rattle.vx_plan.specs.declared.component.Component.{Component}
@@ -41,17 +41,17 @@ unfolding reducing_of
 reduces_is a b e = ap (reducing_of a) e
 
 -- TESTS
-ends_meant : (ends_when starts_when : Option Word) (tests : List Test) → AllMean (if_any ends_when ++ if_any starts_when) tests → IsTestOf ends_when (test_of ends_when tests)
+ends_meant : (ends_when starts_when : Option ByteString) (tests : List Test) → AllMean (if_any ends_when ++ if_any starts_when) tests → IsTestOf ends_when (test_of ends_when tests)
 ends_meant None starts_when tests mean = λ e. refl
 ends_meant (Some text) starts_when [] mean = absurd mean
 ends_meant (Some text) starts_when (test ∷ rest) mean = λ e. mean.0 e
 
-first_meant : (condition : Option Word) (tests : List Test) → AllMean (if_any condition) tests → IsTestOf condition (test_of condition tests)
+first_meant : (condition : Option ByteString) (tests : List Test) → AllMean (if_any condition) tests → IsTestOf condition (test_of condition tests)
 first_meant None tests mean = λ e. refl
 first_meant (Some text) [] mean = absurd mean
 first_meant (Some text) (test ∷ rest) mean = λ e. mean.0 e
 
-starts_meant : (ends_when starts_when : Option Word) (tests : List Test) → AllMean (if_any ends_when ++ if_any starts_when) tests →
+starts_meant : (ends_when starts_when : Option ByteString) (tests : List Test) → AllMean (if_any ends_when ++ if_any starts_when) tests →
     IsTestOf starts_when (test_of starts_when (drop (length (if_any ends_when)) tests))
 starts_meant None starts_when tests mean = first_meant starts_when tests mean
 starts_meant (Some text) starts_when [] mean = absurd mean
@@ -78,16 +78,16 @@ settings_mean h i s settings runs follows =
 
 -- THE RULE
 -- tests that some conditions have
-tests_for : Option Word → Test → List Test → List Test
+tests_for : Option ByteString → Test → List Test → List Test
 tests_for None test rest = rest
 tests_for (Some text) test rest = test ∷ rest
 
-one_means : (condition : Option Word) (test : Test) → IsTestOf condition test → AllMean (if_any condition) (tests_for condition test [])
+one_means : (condition : Option ByteString) (test : Test) → IsTestOf condition test → AllMean (if_any condition) (tests_for condition test [])
 unfolding tests_for
 one_means None test is = tt
 one_means (Some text) test is = (is, tt)
 
-both_mean : (ends_when starts_when : Option Word) (s : Settings) → IsTestOf ends_when s.ends_when → IsTestOf starts_when s.starts_when →
+both_mean : (ends_when starts_when : Option ByteString) (s : Settings) → IsTestOf ends_when s.ends_when → IsTestOf starts_when s.starts_when →
     AllMean (if_any ends_when ++ if_any starts_when) (tests_for ends_when s.ends_when (tests_for starts_when s.starts_when []))
 unfolding tests_for
 both_mean None starts_when s ends starts = one_means starts_when s.starts_when starts

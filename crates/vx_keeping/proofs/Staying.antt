@@ -17,7 +17,7 @@ use Rattle.vx_record.specs.Batches.{parent, batch_of}
 use Rattle.vx_record.specs.Parcels.{parcel_event}
 use Rattle.vx_record.specs.Lists.{shrunk}
 use Rattle.vx_record.specs.Installs.{component_of, transform_at}
-use Rattle.vx_record.specs.Inputs.{Input as Told, unanswered, inputs, at_answer, answered, is_tick}
+use Rattle.vx_record.specs.Inputs.{Input as NotedInput, unanswered, inputs, at_answer, answered, is_tick}
 use Rattle.vx_record.specs.Transforms.{Rule, RunsBy}
 use Rattle.vx_record.specs.Owing.{took_since, owes, owes_birth, owes_spends_in, owes_discards, owes_answer}
 use Rattle.vx_record.specs.Shifts.{at}
@@ -25,7 +25,7 @@ use Rattle.vx_record.specs.Legal.{IsLegal}
 use Rattle.vx_record.proofs.Answers.{count-shrunk}
 use Rattle.vx_record.proofs.Counts.{unless, unless-none, unless-some}
 use Rattle.vx_record.proofs.Live.{if_lt}
-use Rattle.vx_keeping.specs.Keeping.{IsMade, told_at, taken_in, RunsWith}
+use Rattle.vx_keeping.specs.Keeping.{IsMade, noted_input_at, taken_in, RunsWith}
 use Rattle.vx_keeping.specs.Laws.{LeavesKept}
 
 -- COPIES
@@ -84,20 +84,20 @@ answered_stays h i e leaves = refl
 pub taken_stays : (h : Record) (i : ℕ) (e : Entry) → LeavesKept h i e → taken_in (e ∷ h) i ≡ taken_in h i
 taken_stays h i (Take j s copies) leaves = go (j == i) refl
   where
-    x : Told
+    x : NotedInput
     x = record { step = comes (parcel_event h copies) (lease_now h i); copies = copies }
 
-    go : (b : Bool) → (j == i) ≡ b → reverse (filter (λ (x : Told). not (is_tick x.step)) ((if b then record { step = comes (parcel_event h copies) (lease_now h i); copies = copies } ∷ [] else []) ++ unanswered h i)) ≡ taken_in h i
+    go : (b : Bool) → (j == i) ≡ b → reverse (filter (λ (x : NotedInput). not (is_tick x.step)) ((if b then record { step = comes (parcel_event h copies) (lease_now h i); copies = copies } ∷ [] else []) ++ unanswered h i)) ≡ taken_in h i
     go true is = absurd (leaves (grind (arith, nat_tests)))
     go false is = refl
 taken_stays h i (Tick j now) leaves = go (j == i)
   where
-    go : (b : Bool) → reverse (filter (λ (x : Told). not (is_tick x.step)) ((if b then record { step = ticks now; copies = [] } ∷ [] else []) ++ unanswered h i)) ≡ taken_in h i
+    go : (b : Bool) → reverse (filter (λ (x : NotedInput). not (is_tick x.step)) ((if b then record { step = ticks now; copies = [] } ∷ [] else []) ++ unanswered h i)) ≡ taken_in h i
     go true = refl
     go false = refl
 taken_stays h i (Answer j outputs discarded kept) leaves = go (j == i) refl
   where
-    go : (b : Bool) → (j == i) ≡ b → reverse (filter (λ (x : Told). not (is_tick x.step)) (if b then [] else unanswered h i)) ≡ taken_in h i
+    go : (b : Bool) → (j == i) ≡ b → reverse (filter (λ (x : NotedInput). not (is_tick x.step)) (if b then [] else unanswered h i)) ≡ taken_in h i
     go true is = absurd (leaves (grind (arith, nat_tests)))
     go false is = refl
 taken_stays h i e leaves = refl
@@ -128,21 +128,21 @@ or_right true b is = absurd cc
 or_right false b is = is
 
 -- what owes no answer took nothing since the last one
-took_none : (h : Record) (i : ℕ) → took_since h i ≡ false → filter (λ (x : Told). not (is_tick x.step)) (unanswered h i) ≡ []
+took_none : (h : Record) (i : ℕ) → took_since h i ≡ false → filter (λ (x : NotedInput). not (is_tick x.step)) (unanswered h i) ≡ []
 took_none [] i none = refl
 took_none (Take j s copies ∷ h) i none = go (j == i) none (λ is. took_none h i is)
   where
-    go : (b : Bool) → (b || took_since h i) ≡ false → (took_since h i ≡ false → filter (λ (x : Told). not (is_tick x.step)) (unanswered h i) ≡ []) → filter (λ (x : Told). not (is_tick x.step)) ((if b then record { step = comes (parcel_event h copies) (lease_now h i); copies = copies } ∷ [] else []) ++ unanswered h i) ≡ []
+    go : (b : Bool) → (b || took_since h i) ≡ false → (took_since h i ≡ false → filter (λ (x : NotedInput). not (is_tick x.step)) (unanswered h i) ≡ []) → filter (λ (x : NotedInput). not (is_tick x.step)) ((if b then record { step = comes (parcel_event h copies) (lease_now h i); copies = copies } ∷ [] else []) ++ unanswered h i) ≡ []
     go true is ih = absurd cc
     go false is ih = ih is
 took_none (Tick j now ∷ h) i none = go (j == i) (took_none h i none)
   where
-    go : (b : Bool) → filter (λ (x : Told). not (is_tick x.step)) (unanswered h i) ≡ [] → filter (λ (x : Told). not (is_tick x.step)) ((if b then record { step = ticks now; copies = [] } ∷ [] else []) ++ unanswered h i) ≡ []
+    go : (b : Bool) → filter (λ (x : NotedInput). not (is_tick x.step)) (unanswered h i) ≡ [] → filter (λ (x : NotedInput). not (is_tick x.step)) ((if b then record { step = ticks now; copies = [] } ∷ [] else []) ++ unanswered h i) ≡ []
     go true is = is
     go false is = is
 took_none (Answer j outputs discarded kept ∷ h) i none = go (j == i) none (λ is. took_none h i is)
   where
-    go : (b : Bool) → (not b && took_since h i) ≡ false → (took_since h i ≡ false → filter (λ (x : Told). not (is_tick x.step)) (unanswered h i) ≡ []) → filter (λ (x : Told). not (is_tick x.step)) (if b then [] else unanswered h i) ≡ []
+    go : (b : Bool) → (not b && took_since h i) ≡ false → (took_since h i ≡ false → filter (λ (x : NotedInput). not (is_tick x.step)) (unanswered h i) ≡ []) → filter (λ (x : NotedInput). not (is_tick x.step)) (if b then [] else unanswered h i) ≡ []
     go true is ih = refl
     go false is ih = ih is
 took_none (e ∷ h) i none = took_none h i none
@@ -158,15 +158,15 @@ map_none f [] is = refl
 map_none f (x ∷ xs) is = absurd cc
 
 -- so what was taken came at the moment of the last Lease
-pub moments_stay : (h : Record) (i : ℕ) (e : Entry) (ps : List Parcel) → IsLegal (e ∷ h) → transform_at h i ≡ true → map (told_at (lease_now h i)) ps ≡ taken_in h i →
-    map (told_at (lease_now (e ∷ h) i)) ps ≡ taken_in h i
+pub moments_stay : (h : Record) (i : ℕ) (e : Entry) (ps : List Parcel) → IsLegal (e ∷ h) → transform_at h i ≡ true → map (noted_input_at (lease_now h i)) ps ≡ taken_in h i →
+    map (noted_input_at (lease_now (e ∷ h) i)) ps ≡ taken_in h i
 moments_stay h i (Lease j worker now polls) ps legal transform same = go (j == i) refl
   where
-    go : (b : Bool) → (j == i) ≡ b → map (told_at (if b then now else lease_now h i)) ps ≡ taken_in h i
+    go : (b : Bool) → (j == i) ≡ b → map (noted_input_at (if b then now else lease_now h i)) ps ≡ taken_in h i
     go true is =
         let here : j ≡ i = grind (arith, nat_tests) in
         let none : taken_in h i ≡ [] = settled_none h i transform (ap (owes h) (sym here) ∙ legal.0.row.settled) in
-        let empty : ps ≡ [] = map_none (told_at (lease_now h i)) ps (same ∙ none) in
-        ap (map (told_at now)) empty ∙ sym none
+        let empty : ps ≡ [] = map_none (noted_input_at (lease_now h i)) ps (same ∙ none) in
+        ap (map (noted_input_at now)) empty ∙ sym none
     go false is = same
 moments_stay h i e ps legal transform same = same

@@ -11,7 +11,7 @@ use Rattle.vx_record.specs.Copies.{count, joined}
 use Rattle.vx_record.specs.Places.{put_out}
 use Rattle.vx_record.specs.Places.Place.{Held}
 use Rattle.vx_record.specs.Lists.{without, held}
-use Rattle.vx_record.specs.Inputs.{Input as Told, answered, steps_of}
+use Rattle.vx_record.specs.Inputs.{Input as NotedInput, answered, steps_of}
 use Rattle.vx_record.specs.Transforms.{reduces, RunsBy, PutsOut, Discards}
 use Rattle.vx_record.specs.Shifts.{at}
 use Rattle.vx_record.specs.Legal.{IsLegal}
@@ -45,7 +45,7 @@ pub record MayBeNoted (h : Record) (i : ℕ) (outputs : List Output) : Type 0 wh
 
 -- a moment is that of the next check behind what is answered and some more, and where there is one, the instance runs by a rule that
 -- reduces
-pub record IsDueBehind (soonest : Option ℕ) (h : Record) (i : ℕ) (behind : List Told) : Type 0 where
+pub record IsDueBehind (soonest : Option ℕ) (h : Record) (i : ℕ) (behind : List NotedInput) : Type 0 where
   pub moment : (s : Settings) → RunsBy h i (reduces s) → soonest ≡ due s (steps_of (reverse behind ++ answered h i))
   pub runs : IsSome soonest → Reduces h i
 

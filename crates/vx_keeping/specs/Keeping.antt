@@ -13,7 +13,7 @@ use Rattle.vx_record.specs.Turns.{lease_now}
 use Rattle.vx_record.specs.Places.Place.{Held}
 use Rattle.vx_record.specs.Batches.{batch_of}
 use Rattle.vx_record.specs.Installs.{component_of}
-use Rattle.vx_record.specs.Inputs.{Input as Told, unanswered, answered, is_tick}
+use Rattle.vx_record.specs.Inputs.{Input as NotedInput, unanswered, answered, is_tick}
 use Rattle.vx_record.specs.Transforms.{reduces, RunsBy}
 use Rattle.vx_record.specs.Shifts.{at}
 use Rattle.vx_places.specs.Numbers.{IsCopyIn}
@@ -37,16 +37,16 @@ pub record Accounts (k : Kept) (h : Record) (i : ℕ) : Type 0 where
 
 -- INPUTS
 -- an input of a reduce as a record tells it
-abbrev pub told : Input → Told
-told x = record { step = x.step; copies = numbers_of x.copies }
+abbrev pub noted_input : Input → NotedInput
+noted_input x = record { step = x.step; copies = numbers_of x.copies }
 
 -- a parcel that comes at a moment, as a record tells it
-abbrev pub told_at : ℕ → Parcel → Told
-told_at now parcel = record { step = comes parcel.event now; copies = numbers_of parcel.finalizers }
+abbrev pub noted_input_at : ℕ → Parcel → NotedInput
+noted_input_at now parcel = record { step = comes parcel.event now; copies = numbers_of parcel.finalizers }
 
 -- the parcels that the instance took since its last Answer, in order
-abbrev pub taken_in : Record → ℕ → List Told
-taken_in h i = reverse (filter (λ (x : Told). not (is_tick x.step)) (unanswered h i))
+abbrev pub taken_in : Record → ℕ → List NotedInput
+taken_in h i = reverse (filter (λ (x : NotedInput). not (is_tick x.step)) (unanswered h i))
 
 -- THE RULE
 -- the instance runs a transform that reduces by these settings
@@ -62,12 +62,12 @@ IsBareOrMeant k = ((k.reduce.groups ≡ []) × (k.shelf ≡ nothing)) ⊎ IsMean
 
 -- a keeper's reduce is set as the record has it, and was given what the instance has answered and then some more: by whatever
 -- tests its conditions mean, it stands for that, and what these have it put out stands on the shelf
-pub record HasGiven (k : Kept) (h : Record) (i : ℕ) (behind : List Told) : Type 0 where
+pub record HasGiven (k : Kept) (h : Record) (i : ℕ) (behind : List NotedInput) : Type 0 where
   pub set : RunsWith h i (settings_of k.reduce)
   pub earlier : List Input
   pub more : List Input
-  pub answered : map told earlier ≡ answered h i
-  pub given : map told more ≡ behind
+  pub answered : map noted_input earlier ≡ answered h i
+  pub given : map noted_input more ≡ behind
   pub stands : (s : Settings) → RunsBy h i (reduces s) → IsAt s (reverse more ++ earlier) k.reduce
   pub shelf : (s : Settings) → RunsBy h i (reduces s) → k.shelf ≡ put_all nothing (outputs_over s earlier more)
   pub meant : IsBareOrMeant k
@@ -79,7 +79,7 @@ pub record HasGiven (k : Kept) (h : Record) (i : ℕ) (behind : List Told) : Typ
 pub record IsAbreast (k : Kept) (h : Record) (i : ℕ) : Type 0 where
   pub given : HasGiven k h i []
   pub bare : k.shelf ≡ nothing
-  pub taken : map (told_at (lease_now h i)) k.taken.items ≡ taken_in h i
+  pub taken : map (noted_input_at (lease_now h i)) k.taken.items ≡ taken_in h i
 
 -- so it is of a keeper that is fit; of any, the copies are accounted for
 pub record Keeps (k : Kept) (h : Record) (i : ℕ) : Type 0 where
@@ -88,7 +88,7 @@ pub record Keeps (k : Kept) (h : Record) (i : ℕ) : Type 0 where
 
 -- BEFORE AN ANSWER
 -- it was given these inputs behind what is answered, and no parcel waits
-pub record HasMade (k : Kept) (h : Record) (i : ℕ) (behind : List Told) : Type 0 where
+pub record HasMade (k : Kept) (h : Record) (i : ℕ) (behind : List NotedInput) : Type 0 where
   pub accounts : Accounts k h i
   pub fit : k.fit ≡ true
   pub taken : k.taken.items ≡ []

@@ -8,7 +8,7 @@ use Rattle.vx_record.specs.Records.{Record}
 use Rattle.vx_record.specs.Copies.{count, joined}
 use Rattle.vx_record.specs.Turns.{is_out}
 use Rattle.vx_record.specs.Places.Place.{Held}
-use Rattle.vx_record.specs.Inputs.{Input as Told, unanswered, ticks_wait, flush, to_answer, steps}
+use Rattle.vx_record.specs.Inputs.{Input as NotedInput, unanswered, ticks_wait, flush, to_answer, steps}
 use Rattle.vx_record.specs.Transforms.{reduces, RunsBy, IsTickDue}
 use Rattle.vx_record.specs.Answering.{MayFlush, MayAnswer}
 use Rattle.vx_record.specs.Shifts.{at}
@@ -35,7 +35,7 @@ KeepsStays = (k : Kept) (h : Record) (i : ℕ) (e : Entry) → IsLegal (e ∷ h)
 -- also before an answer
 abbrev pub MadeStays : Type 0
 MadeStays =
-    (k : Kept) (h : Record) (i : ℕ) (e : Entry) (given : List Told) → IsLegal (e ∷ h) → LeavesKept h i e → HasMade k h i given → HasMade k (e ∷ h) i given
+    (k : Kept) (h : Record) (i : ℕ) (e : Entry) (given : List NotedInput) → IsLegal (e ∷ h) → LeavesKept h i e → HasMade k h i given → HasMade k (e ∷ h) i given
 
 -- so it is while others go on
 abbrev pub KeepsGoesOn : Type 0
@@ -43,7 +43,7 @@ KeepsGoesOn = (k : Kept) (old new : Record) (i : ℕ) → IsLegal old → OnlyAd
 
 -- and what it has made stays
 abbrev pub MadeGoesOn : Type 0
-MadeGoesOn = (k : Kept) (old new : Record) (i : ℕ) (given : List Told) → IsLegal old → OnlyAdds (Spares i) old new → HasMade k old i given → HasMade k new i given
+MadeGoesOn = (k : Kept) (old new : Record) (i : ℕ) (given : List NotedInput) → IsLegal old → OnlyAdds (Spares i) old new → HasMade k old i given → HasMade k new i given
 
 -- an entry is no Tick of the instance
 abbrev pub IsNoTick : ℕ → Entry → Type 0
@@ -116,7 +116,7 @@ OutputsKnown =
 -- behind it the instance keeps nothing where the reduce holds no group
 abbrev pub NoneKept : Type 0
 NoneKept =
-    (k : Kept) (h : Record) (i : ℕ) (given : List Told) → IsLegal h → HasMade k h i given → k.reduce.groups ≡ [] → kept_behind h i k.shelf.outputs ≡ []
+    (k : Kept) (h : Record) (i : ℕ) (given : List NotedInput) → IsLegal h → HasMade k h i given → k.reduce.groups ≡ [] → kept_behind h i k.shelf.outputs ≡ []
 
 -- so an instance that is out and holds something may answer; to the flush, where its end allows that
 abbrev pub MayAnswerMade : Type 0

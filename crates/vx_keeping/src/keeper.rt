@@ -5,7 +5,7 @@ ghost use Rattle.vx_condition.specs.Steps.{ticks};
 ghost use Rattle.vx_record.specs.Records.{Record};
 ghost use Rattle.vx_record.specs.Turns.{lease_now};
 ghost use Rattle.vx_record.specs.Places.Place.{Held};
-ghost use Rattle.vx_record.specs.Inputs.{Input as Told, inputs, to_answer, flush};
+ghost use Rattle.vx_record.specs.Inputs.{Input as NotedInput, inputs, to_answer, flush};
 ghost use Rattle.vx_record.specs.Shifts.{at};
 ghost use Rattle.vx_record.specs.Legal.{IsLegal};
 ghost use Rattle.vx_record.specs.declared.entry.Entry.TheVariants.{Take, Answer};
@@ -147,7 +147,7 @@ impl Keeper {
     /// For want of memory it may have put out a part, and isn't fit any more. One that wasn't fit answers the same.
     pub fn tick(&mut self, alloc: Global, now: u64) -> Result<(), WantOfMemory>
         ensures made { OnOk result
-            ((h : Record) (i : ℕ) (given : List Told) → HasMade self.old h i given →
+            ((h : Record) (i : ℕ) (given : List NotedInput) → HasMade self.old h i given →
             HasMade self.new h i (given ++ record { step = ticks now; copies = [] } ∷ [])) }
         ensures had { OnOk result (self.old.fit ≡ true) }
         ensures fit { OnOk result (self.new.fit ≡ true) }
@@ -174,7 +174,7 @@ impl Keeper {
     /// For want of memory it may have put out a part, and isn't fit any more. One that wasn't fit answers the same.
     pub fn flush(&mut self, alloc: Global) -> Result<(), WantOfMemory>
         ensures made { OnOk result
-            ((h : Record) (i : ℕ) (given : List Told) → HasMade self.old h i given →
+            ((h : Record) (i : ℕ) (given : List NotedInput) → HasMade self.old h i given →
             HasMade self.new h i (given ++ flush ∷ [])) }
         ensures had { OnOk result (self.old.fit ≡ true) }
         ensures fit { OnOk result (self.new.fit ≡ true) }
@@ -259,7 +259,7 @@ impl Keeper {
 
     /// The moment of the reduce's next check, while it has a group.
     pub fn due(&self) -> Option<u64>
-        ensures made { (h : Record) (i : ℕ) (given : List Told) → HasMade self.now h i given →
+        ensures made { (h : Record) (i : ℕ) (given : List NotedInput) → HasMade self.now h i given →
             IsDueBehind result h i given }
         ensures keeps { self.now.fit ≡ true → (h : Record) (i : ℕ) → Keeps self.now h i →
             IsDueBehind result h i [] }

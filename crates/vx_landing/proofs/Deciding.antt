@@ -3,7 +3,7 @@ use Rattle.std.proofs.Common.{◌≡◌, ◌∙◌, ℕ, ◌+◌, ◌<◌, Bool,
 use Rattle.std.specs.Prelude.{not, nat_le, if◌then◌else◌}
 use Rattle.std.proofs.lemmas.Bool.{and_parts}
 use Rattle.std.proofs.lemmas.Bool.Decides.{nat_tests}
-use Rattle.vx_ends.specs.Told.{Told}
+use Rattle.vx_ends.specs.Observation.{Observation}
 use Rattle.vx_ends.specs.declared.trouble.Reply.TheVariants.{Failed}
 use Rattle.vx_value.specs.Texts.{is_empty}
 use Rattle.vx_plan.specs.declared.component.Component.{Component}
@@ -18,10 +18,10 @@ use Rattle.vx_record.specs.Turns.{lease_now}
 use Rattle.vx_record.specs.SinkBatches.{attempts_allowed, failures_with, oldest_held, is_full_batch, is_timed_out, is_last_batch, was_attempted}
 use Rattle.vx_record.proofs.Shifting.{stands_at}
 use Rattle.vx_tasks.specs.Out.{MayAttemptNow}
-use Rattle.vx_seats.specs.declared.facts.Batching.{Batching}
-use Rattle.vx_seats.specs.declared.seat.Seat.{Seat}
-use Rattle.vx_seats.specs.Knowing.{IsFittedTo, IsKnown, schedule_of}
-use Rattle.vx_seats.proofs.Holding.{held_none_empty, oldest_among}
+use Rattle.vx_instances.specs.declared.facts.Batching.{Batching}
+use Rattle.vx_instances.specs.declared.state.InstanceState.{InstanceState}
+use Rattle.vx_instances.specs.Knowing.{IsFittedTo, IsKnown, schedule_of}
+use Rattle.vx_instances.proofs.Holding.{held_none_empty, oldest_among}
 use Rattle.vx_landing.specs.Landings.{decides, is_last}
 
 -- as many more
@@ -32,12 +32,12 @@ some_held : (ps : List (List ℕ)) → not (is_empty ps) ≡ true → 0 < length
 some_held [] full = cc
 some_held (p ∷ ps) full = omega arith
 
-module _ {P : Type 0} (seat : Seat P) (h : Record) (i : ℕ) where
-  allowed : (n : ℕ) → IsSomeAnd (component_of h i) (IsFittedTo seat) → sink_at h i ≡ true → is_last seat.batching n ≡ nat_le (attempts_allowed h i) (n + 1)
+module _ {P : Type 0} (state : InstanceState P) (h : Record) (i : ℕ) where
+  allowed : (n : ℕ) → IsSomeAnd (component_of h i) (IsFittedTo state) → sink_at h i ≡ true → is_last state.batching n ≡ nat_le (attempts_allowed h i) (n + 1)
   allowed n fitted sink = go (component_of h i) fitted sink
     where
-      go : (o : Option Component) → IsSomeAnd o (IsFittedTo seat) → (elim o [ None ↦ false | Some c ↦ is_sink c ]) ≡ true →
-          is_last seat.batching n ≡ nat_le ((elim o as (λ _. ℕ) [ None ↦ 0 | Some c ↦ retry_attempts c.settings ]) + 1) (n + 1)
+      go : (o : Option Component) → IsSomeAnd o (IsFittedTo state) → (elim o [ None ↦ false | Some c ↦ is_sink c ]) ≡ true →
+          is_last state.batching n ≡ nat_le ((elim o as (λ _. ℕ) [ None ↦ 0 | Some c ↦ retry_attempts c.settings ]) + 1) (n + 1)
       go None is on = absurd is
       go (Some c) is on =
           ap (λ (b : Option Batching). is_last b n)
@@ -45,9 +45,9 @@ module _ {P : Type 0} (seat : Seat P) (h : Record) (i : ℕ) where
           ∙ both_more (retry_attempts c.settings) n
 
   -- the failures that are kept are those of what it holds
-  pub decided_last : (told_by : P → Told) (last : Bool) → IsLegal h → IsKnown told_by seat h i → MayAttemptNow h i →
-      ((n : ℕ) → seat.facts.failures ≡ capped n → last ≡ is_last seat.batching n) → last ≡ decides h i Failed
-  decided_last told_by last legal known may is =
+  pub decided_last : (observe : P → Observation) (last : Bool) → IsLegal h → IsKnown observe state h i → MayAttemptNow h i →
+      ((n : ℕ) → state.facts.failures ≡ capped n → last ≡ is_last state.batching n) → last ≡ decides h i Failed
+  decided_last observe last legal known may is =
       let full = (and_parts (not (is_empty (held h i))) (is_full_batch h i || is_timed_out h i (lease_now h i) || is_last_batch h i || was_attempted h i) may.batch_closed).0 in
       let here : 0 < count (oldest_held h i) (joined (held h i)) = oldest_among (held h i) (held_none_empty h i) (some_held (held h i) full) in
       let kept = known.facts.tried may.sink (oldest_held h i) (subst (λ (ps : List (List ℕ)). 0 < count (oldest_held h i) (joined ps)) (stands_at h (Held i) legal) here) in

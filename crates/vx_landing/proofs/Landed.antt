@@ -1,9 +1,9 @@
--- What was done was noted, and the task can come home.
+-- What was done was noted, and the task can come back.
 use Rattle.std.proofs.Common.{◌≡◌, ◌⊎◌, ◌∙◌, ℕ, ◌<◌, Bool, true, false, [], ◌∷◌, length, Option, Some, None, IfSome, IsSomeAnd, refl, sym, ap, inl, inr}
 use Rattle.std.specs.Prelude.{◌&&◌, nat_lt, slice_get, take, if◌then◌else◌}
 use Rattle.std.specs.Option.{is_none}
 use Rattle.std.proofs.lemmas.List.{append-nil}
-use Rattle.vx_ends.specs.Told.{Told}
+use Rattle.vx_ends.specs.Observation.{Observation}
 use Rattle.vx_ends.specs.declared.trouble.Reply.{Reply}
 use Rattle.vx_ledger.specs.declared.short.Short.{Short}
 use Rattle.vx_record.specs.declared.entry.Entry.{Entry}
@@ -28,7 +28,7 @@ use Rattle.vx_record.proofs.Adding.{adds_none}
 use Rattle.vx_record.proofs.Ceasing.{unabandoned}
 use Rattle.vx_record.proofs.Shifting.{stands_at}
 use Rattle.vx_record.proofs.Untried.{spends_settled}
-use Rattle.vx_places.specs.Rooms.{SameRooms}
+use Rattle.vx_places.specs.Capacities.{SameCapacities}
 use Rattle.vx_counts.proofs.Once.{itself}
 use Rattle.vx_sourcecore.specs.Abreast.{IsCutOf}
 use Rattle.vx_sourcecore.specs.declared.source.Cut.{Cut}
@@ -43,28 +43,28 @@ use Rattle.vx_tasks.specs.declared.landing.Done.TheVariants as done
 use Rattle.vx_tasks.specs.declared.task.Role.{Role}
 use Rattle.vx_tasks.specs.declared.task.Role.TheVariants as role
 use Rattle.vx_tasks.specs.declared.task.Task.{Task}
-use Rattle.vx_tasks.specs.Home.{HasCome, HasKept}
+use Rattle.vx_tasks.specs.Unleased.{HasCome, HasKept}
 use Rattle.vx_tasks.specs.Out.{HasRoleTurned, is_unfit, lacks_cut, read_entry, turn_entry, leaves_taken}
-use Rattle.vx_tasks.specs.Telling.{IsTold}
-use Rattle.vx_seats.specs.Calls.{IsBack, HasTaskBack}
-use Rattle.vx_seats.specs.declared.seat.Seat.{Seat}
-use Rattle.vx_seats.specs.Knowing.{IsKnown}
-use Rattle.vx_seats.specs.Staying as staying
-use Rattle.vx_seats.proofs.Owing.{owes_still}
-use Rattle.vx_seats.proofs.Telling.{told_mute, come_mute}
-use Rattle.vx_moves.specs.Bearing.{IsBirthShort}
-use Rattle.vx_moves.specs.declared.books.Books.{Books}
+use Rattle.vx_tasks.specs.Observing.{IsObserved}
+use Rattle.vx_instances.specs.Calls.{IsBack, HasTaskBack}
+use Rattle.vx_instances.specs.declared.state.InstanceState.{InstanceState}
+use Rattle.vx_instances.specs.Knowing.{IsKnown}
+use Rattle.vx_instances.specs.Staying as staying
+use Rattle.vx_instances.proofs.Owing.{owes_still}
+use Rattle.vx_instances.proofs.Observing.{observed_mute, come_mute}
+use Rattle.vx_moves.specs.Creating.{IsBirthShort}
+use Rattle.vx_moves.specs.declared.engine.EngineState.{EngineState}
 use Rattle.vx_moves.specs.declared.run.Run.{Run}
 use Rattle.vx_moves.specs.Leaving.{Leaves}
 use Rattle.vx_moves.specs.Returns.{AreSettled, IsReturned}
 use Rattle.vx_moves.specs.Stands.{Stands}
 use Rattle.vx_landing.specs.Failures.{LacksBirth}
-use Rattle.vx_landing.specs.Landings.{ComesBehind, HasBorneCut, HasLanded, HasNoted, HasNotedRead, HasSpentBy, IsBackWith, IsMarked, IsOwingNow, IsWellLanded, LandsOn, Owes, decides, outcome_of}
+use Rattle.vx_landing.specs.Landings.{ComesBehind, HasCreatedCutBatch, HasLanded, HasNoted, HasNotedRead, HasSpentBy, IsBackWith, IsMarked, IsOwingNow, IsWellLanded, LandsOn, Owes, decides, outcome_of}
 use Rattle.vx_landing.specs.Standing.{IsWellAt, IsFedAt}
 use Rattle.vx_landing.proofs.Answering.{adds_step, for_own, leaves_both, spends_behind}
 use Rattle.vx_landing.proofs.Lending.{kept_on}
-use Rattle.vx_landing.proofs.Owing.{deeds_none, lacks_birth, owes_attempted, owes_barren, owes_borne, owes_none, owes_retried, settled_by, spends_keep, uncaused}
-use Rattle.vx_landing.proofs.Seating.{LeavesBe, NowOwes, NowStarves, be_both, be_here, be_stays, both_are, both_said, carried, carried_one, fed_well, lands, others_both, others_one, well_on}
+use Rattle.vx_landing.proofs.Owing.{work_entries_none, lacks_birth, owes_attempted, owes_barren, owes_created, owes_none, owes_retried, settled_by, spends_keep, uncaused}
+use Rattle.vx_landing.proofs.States.{LeavesBe, NowOwes, NowStarves, be_both, be_here, be_stays, both_are, both_said, carried, carried_one, fed_well, lands, others_both, others_one, well_on}
 
 -- WHAT A TASK DOES
 -- an instance works with a port or not behind an entry that installs nothing
@@ -139,163 +139,163 @@ some_of : {A : Type 0} (F : A → Type 0) (o : Option A) → IsSomeAnd o F → (
 some_of F None is = absurd is
 some_of F (Some x) is = (x, (refl, is))
 
--- A TASK THAT COMES HOME
+-- A TASK THAT COMES BACK
 -- a task as the record has it, but for what it owes to it
-pub record IsArrived {P : Type 0} (told_by : P → Told) (h : Record) (i : ℕ) (task : Task P) : Type 0 where
+pub record IsArrived {P : Type 0} (observe : P → Observation) (h : Record) (i : ℕ) (task : Task P) : Type 0 where
   pub out : is_out h i ≡ true
-  pub told : IsTold (told_by task.port) h i
+  pub observed : IsObserved (observe task.port) h i
   pub come : HasCome h i task.role
   pub answered : device_at h i ≡ true → last_confirm h i ≡ due (at_lease h i) i
   pub kept : cause_of h ≡ None → HasKept h i task.role
-  pub shut : is_closed h i ≡ true → (told_by task.port).started ≡ false
+  pub shut : is_closed h i ≡ true → (observe task.port).started ≡ false
   pub fit : is_unfit task.role ≡ false
 
 -- what its instance owes isn't known any more
-pub record IsOwing {P : Type 0} (task : Task P) (seat : Seat P) : Type 0 where
-  pub owing : seat.facts.owing ≡ true
-  pub fed : seat.facts.starved ≡ false
-  pub fit : seat.facts.behind ≡ false → is_unfit task.role ≡ false
+pub record IsOwing {P : Type 0} (task : Task P) (state : InstanceState P) : Type 0 where
+  pub owing : state.facts.owing ≡ true
+  pub fed : state.facts.starved ≡ false
+  pub fit : state.facts.behind ≡ false → is_unfit task.role ≡ false
 
-module _ {P : Type 0} {told_by : P → Told} {i : ℕ} {task : Task P} {old : Books P} {outcome : Done}
-    (stands : Stands told_by old) (within : i < length old.seats) (b : IsBackWith told_by old i task outcome) where
-  pub landed_by : {h : Record} {new : Books P} → new.log ≡ h → Stands told_by new → OnlyAdds (IsFor i) old.log new.log → LandsOn i old new → is_out h i ≡ true →
-      HasTaskBack told_by new.seats h i task → (new.run.short ≡ false → IsReturned h i) → HasLanded told_by i task old new
+module _ {P : Type 0} {observe : P → Observation} {i : ℕ} {task : Task P} {old : EngineState P} {outcome : Done}
+    (stands : Stands observe old) (within : i < length old.states) (b : IsBackWith observe old i task outcome) where
+  pub landed_by : {h : Record} {new : EngineState P} → new.log ≡ h → Stands observe new → OnlyAdds (IsFor i) old.log new.log → LandsOn i old new → is_out h i ≡ true →
+      HasTaskBack observe new.states h i task → (new.run.out_of_memory ≡ false → IsReturned h i) → HasLanded observe i task old new
   landed_by {h} {new} log now only leaves out back returned = record {
     stands = now;
     only = only;
     leaves = leaves;
     out = rw log out;
-    kept = kept_on old.places new.places i (rw stands.size within) leaves.rooms b.kept;
+    kept = kept_on old.places new.places i (rw stands.size within) leaves.capacities b.kept;
     back = rw log back;
     returned = λ fed. rw log (returned fed);
   }
 
   -- all is well
-  pub landed_well : {h : Record} {new : Books P} → new.log ≡ h → Stands told_by new → OnlyAdds (IsFor i) old.log new.log → LeavesBe i old new →
-      IfSome (slice_get new.seats i) IsWellAt → IsArrived told_by h i task → (cause_of h ≡ None → owes h i ≡ false) → HasLanded told_by i task old new
+  pub landed_well : {h : Record} {new : EngineState P} → new.log ≡ h → Stands observe new → OnlyAdds (IsFor i) old.log new.log → LeavesBe i old new →
+      IfSome (slice_get new.states i) IsWellAt → IsArrived observe h i task → (cause_of h ≡ None → owes h i ≡ false) → HasLanded observe i task old new
   landed_well {h} {new} log now only be well arrived settled =
-      landed_by log now only (lands be (fed_well (slice_get new.seats i) well)) arrived.out
-      (both_said (λ seat. IsKnown told_by seat h i) IsWellAt (λ seat. IsBack told_by seat.facts h i task) (slice_get new.seats i)
-      (rw log at (now.seats.each i)) well (λ seat known well. record {
+      landed_by log now only (lands be (fed_well (slice_get new.states i) well)) arrived.out
+      (both_said (λ state. IsKnown observe state h i) IsWellAt (λ state. IsBack observe state.facts h i task) (slice_get new.states i)
+      (rw log at (now.states.each i)) well (λ state known well. record {
         settled = λ owing. settled;
         answered = λ device owing going. arrived.answered device;
         kept = λ owing going. arrived.kept going;
-        task_is = rw well.fed (record { told = arrived.told; come = arrived.come });
+        task_is = rw well.fed (record { observed = arrived.observed; come = arrived.come });
         shut = λ closed. arrived.shut (sym known.facts.closed ∙ closed);
         fit = λ counted unfit. let no = rw unfit at arrived.fit in cc;
       }))
-      (λ fed. record { settled = λ going. settled_by h i (spends_settled h i (settled (uncaused h going))) going; told = arrived.answered })
+      (λ fed. record { settled = λ going. settled_by h i (spends_settled h i (settled (uncaused h going))) going; observed = arrived.answered })
 
   -- so it is behind one entry
-  landed_noted : {e : Entry} {new : Books P} → HasNoted told_by i e old new → IsArrived told_by (e ∷ old.log) i task → owes (e ∷ old.log) i ≡ false →
-      HasLanded told_by i task old new
+  landed_noted : {e : Entry} {new : EngineState P} → HasNoted observe i e old new → IsArrived observe (e ∷ old.log) i task → owes (e ∷ old.log) i ≡ false →
+      HasLanded observe i task old new
   landed_noted noted arrived none = landed_well noted.steps.noted noted.steps.stands noted.only (be_stays noted.leaves noted.steps.size) (well_on i noted.leaves b.well) arrived (λ going. none)
 
   -- memory was wanting
-  pub back_owing : {h : Record} {new : Books P} → new.log ≡ h → Stands told_by new → IsTold (told_by task.port) h i → HasCome h i task.role →
-      is_closed h i ≡ false → IfSome (slice_get new.seats i) (IsOwing task) → HasTaskBack told_by new.seats h i task
-  back_owing {h} {new} log now told come unclosed owing =
-      both_said (λ seat. IsKnown told_by seat h i) (IsOwing task) (λ seat. IsBack told_by seat.facts h i task) (slice_get new.seats i)
-      (rw log at (now.seats.each i)) owing (λ seat known owes. record {
+  pub back_owing : {h : Record} {new : EngineState P} → new.log ≡ h → Stands observe new → IsObserved (observe task.port) h i → HasCome h i task.role →
+      is_closed h i ≡ false → IfSome (slice_get new.states i) (IsOwing task) → HasTaskBack observe new.states h i task
+  back_owing {h} {new} log now observed come unclosed owing =
+      both_said (λ state. IsKnown observe state h i) (IsOwing task) (λ state. IsBack observe state.facts h i task) (slice_get new.states i)
+      (rw log at (now.states.each i)) owing (λ state known owes. record {
         settled = λ none going. let some = owes.owing in cc;
         answered = λ device none going. let some = owes.owing in cc;
         kept = λ none going. let some = owes.owing in cc;
-        task_is = rw owes.fed (record { told = told; come = come });
+        task_is = rw owes.fed (record { observed = observed; come = come });
         shut = λ closed. let is : is_closed h i ≡ true = sym known.facts.closed ∙ closed in cc;
         fit = λ counted unfit. let no = rw unfit at (owes.fit counted) in cc;
       })
 
-  landed_marked : {h : Record} {mid new : Books P} {Marks : Seat P → Seat P → Type 0} → mid.log ≡ h → Stands told_by mid → OnlyAdds (IsFor i) old.log mid.log →
-      LeavesBe i old mid → IsMarked told_by Marks i mid new → is_out h i ≡ true → HasTaskBack told_by new.seats h i task → HasLanded told_by i task old new
+  landed_marked : {h : Record} {mid new : EngineState P} {Marks : InstanceState P → InstanceState P → Type 0} → mid.log ≡ h → Stands observe mid → OnlyAdds (IsFor i) old.log mid.log →
+      LeavesBe i old mid → IsMarked observe Marks i mid new → is_out h i ≡ true → HasTaskBack observe new.states h i task → HasLanded observe i task old new
   landed_marked {h} {mid} {new} {Marks} log now only be marked out back =
-      let short : new.run.short ≡ true = ap (λ (r : Run). r.short) marked.run in
+      let short : new.run.out_of_memory ≡ true = ap (λ (r : Run). r.out_of_memory) marked.run in
       landed_by (marked.log ∙ log) marked.stands (rw marked.log only)
       (record {
-        size = marked.stands.seats.size ∙ (ap (λ (h : Record). length (started h)) marked.log ∙ sym now.seats.size) ∙ be.size;
-        rooms = rw marked.places be.rooms;
+        size = marked.stands.states.size ∙ (ap (λ (h : Record). length (started h)) marked.log ∙ sym now.states.size) ∙ be.size;
+        capacities = rw marked.places be.capacities;
         run = rw (marked.run, be.run) refl;
         short = λ was. short;
-        others = others_both old.seats mid.seats new.seats be.others (others_one Marks i mid.seats new.seats marked.seats);
+        others = others_both old.states mid.states new.states be.others (others_one Marks i mid.states new.states marked.states);
         fed = λ fed. cc;
       })
       out back (λ fed. cc)
 
 -- it owes nothing before what was done, unless that is to be answered yet
-pub owes_before : {P : Type 0} {told_by : P → Told} {books : Books P} {i : ℕ} {task : Task P} {outcome : Done} → IsBackWith told_by books i task outcome →
-    leaves_taken outcome ≡ false → owes books.log i ≡ false
-owes_before {books = books} {i = i} b answered = owes_none books.log i b.settled (b.untaken answered)
+pub owes_before : {P : Type 0} {observe : P → Observation} {engine : EngineState P} {i : ℕ} {task : Task P} {outcome : Done} → IsBackWith observe engine i task outcome →
+    leaves_taken outcome ≡ false → owes engine.log i ≡ false
+owes_before {engine = engine} {i = i} b answered = owes_none engine.log i b.settled (b.untaken answered)
 
 -- WHAT WAS DONE
-module _ {P : Type 0} {told_by : P → Told} {i : ℕ} {task : Task P} {old : Books P} (stands : Stands told_by old) (within : i < length old.seats) where
-  pub landed_nothing : IsBackWith told_by old i task done.Nothing → HasLanded told_by i task old old
+module _ {P : Type 0} {observe : P → Observation} {i : ℕ} {task : Task P} {old : EngineState P} (stands : Stands observe old) (within : i < length old.states) where
+  pub landed_nothing : IsBackWith observe old i task done.Nothing → HasLanded observe i task old old
   landed_nothing b =
       landed_well stands within b refl stands (adds_none (IsFor i) old.log old.log refl) be_here b.well
-      (record { out = b.out; told = b.told; come = b.acted; answered = b.answered; kept = λ going. b.remembers; shut = λ closed. cc; fit = b.fit }) (λ going. owes_before b refl)
+      (record { out = b.out; observed = b.observed; come = b.acted; answered = b.answered; kept = λ going. b.remembers; shut = λ closed. cc; fit = b.fit }) (λ going. owes_before b refl)
 
-  pub landed_closed : {new : Books P} → IsBackWith told_by old i task done.Closed → HasNoted told_by i (entry.Closed i) old new →
-      HasLanded told_by i task old new
+  pub landed_closed : {new : EngineState P} → IsBackWith observe old i task done.Closed → HasNoted observe i (entry.Closed i) old new →
+      HasLanded observe i task old new
   landed_closed b noted =
-      let told = told_mute (told_by task.port) old.log (entry.Closed i) i tt b.told in
+      let observed = observed_mute (observe task.port) old.log (entry.Closed i) i tt b.observed in
       let come = come_mute task.role old.log (entry.Closed i) i tt b.acted.come in
       landed_noted stands within b noted
-      (record { out = b.out; told = told; come = come; answered = b.answered; kept = λ going. b.remembers; shut = λ closed. b.acted.shut; fit = b.fit })
+      (record { out = b.out; observed = observed; come = come; answered = b.answered; kept = λ going. b.remembers; shut = λ closed. b.acted.shut; fit = b.fit })
       (owes_still old.log (entry.Closed i) i tt (owes_before b refl))
 
   -- a turn that took nothing
-  landed_idle_by : {took : Turned} {failed : Bool} {new : Books P} → reading_of took ≡ None → is_unfit task.role ≡ false →
-      IsTold (told_by task.port) (entry.Idle i failed ∷ old.log) i → IsBackWith told_by old i task (done.Read took) →
-      HasNoted told_by i (entry.Idle i failed) old new → HasLanded told_by i task old new
-  landed_idle_by {took} {failed} none fit told b noted =
+  landed_idle_by : {took : Turned} {failed : Bool} {new : EngineState P} → reading_of took ≡ None → is_unfit task.role ≡ false →
+      IsObserved (observe task.port) (entry.Idle i failed ∷ old.log) i → IsBackWith observe old i task (done.Read took) →
+      HasNoted observe i (entry.Idle i failed) old new → HasLanded observe i task old new
+  landed_idle_by {took} {failed} none fit observed b noted =
       let come = come_under task.role old.log (entry.Idle i failed) i tt (role_idle task.role old.log i took none b.acted.come) in
-      landed_noted stands within b noted (record { out = b.out; told = told; come = come; answered = b.answered; kept = λ going. b.remembers; shut = λ closed. cc; fit = fit })
+      landed_noted stands within b noted (record { out = b.out; observed = observed; come = come; answered = b.answered; kept = λ going. b.remembers; shut = λ closed. cc; fit = fit })
       (owes_still old.log (entry.Idle i failed) i tt (owes_before b refl))
 
-  pub landed_idle : {new : Books P} → IsBackWith told_by old i task (done.Read turned.Idle) → HasNoted told_by i (entry.Idle i false) old new →
-      HasLanded told_by i task old new
-  landed_idle b = landed_idle_by refl b.fit b.told b
+  pub landed_idle : {new : EngineState P} → IsBackWith observe old i task (done.Read turned.Idle) → HasNoted observe i (entry.Idle i false) old new →
+      HasLanded observe i task old new
+  landed_idle b = landed_idle_by refl b.fit b.observed b
 
-  pub landed_failed : {at_start : Bool} {new : Books P} → IsBackWith told_by old i task (done.Read (turned.Failed at_start)) →
-      HasNoted told_by i (turn_entry old.log i (turned.Failed at_start)) old new → HasLanded told_by i task old new
-  landed_failed {at_start} {new} b = go (at_start && nat_lt (failed_starts old.log i) 4) b.told
+  pub landed_failed : {at_start : Bool} {new : EngineState P} → IsBackWith observe old i task (done.Read (turned.Failed at_start)) →
+      HasNoted observe i (turn_entry old.log i (turned.Failed at_start)) old new → HasLanded observe i task old new
+  landed_failed {at_start} {new} b = go (at_start && nat_lt (failed_starts old.log i) 4) b.observed
     where
-      go : (again : Bool) → IsTold (told_by task.port) ((if again then entry.Idle i true else entry.SourceLost i (capped (bytes_taken old.log i)) at_start) ∷ old.log) i →
-          HasNoted told_by i (if again then entry.Idle i true else entry.SourceLost i (capped (bytes_taken old.log i)) at_start) old new → HasLanded told_by i task old new
-      go true told noted = landed_idle_by refl b.fit told b noted
-      go false told noted =
+      go : (again : Bool) → IsObserved (observe task.port) ((if again then entry.Idle i true else entry.SourceLost i (capped (bytes_taken old.log i)) at_start) ∷ old.log) i →
+          HasNoted observe i (if again then entry.Idle i true else entry.SourceLost i (capped (bytes_taken old.log i)) at_start) old new → HasLanded observe i task old new
+      go true observed noted = landed_idle_by refl b.fit observed b noted
+      go false observed noted =
           let e = entry.SourceLost i (capped (bytes_taken old.log i)) at_start in
           let come = come_under task.role old.log e i tt (role_idle task.role old.log i (turned.Failed at_start) refl b.acted.come) in
-          landed_noted stands within b noted (record { out = b.out; told = told; come = come; answered = b.answered; kept = λ going. b.remembers; shut = λ closed. cc; fit = b.fit })
+          landed_noted stands within b noted (record { out = b.out; observed = observed; come = come; answered = b.answered; kept = λ going. b.remembers; shut = λ closed. cc; fit = b.fit })
           (owes_still old.log e i tt (owes_before b refl))
 
   -- memory was wanting for the confirm or the work, or in the midst of an attempt
-  pub landed_short : {new : Books P} → IsBackWith told_by old i task done.Short → IsMarked told_by NowOwes i old new → HasLanded told_by i task old new
-  landed_short b marked =
+  pub landed_out_of_memory : {new : EngineState P} → IsBackWith observe old i task done.OutOfMemory → IsMarked observe NowOwes i old new → HasLanded observe i task old new
+  landed_out_of_memory b marked =
       landed_marked stands within b refl stands (adds_none (IsFor i) old.log old.log refl) be_here marked b.out
-      (back_owing stands within b marked.log marked.stands b.told b.acted b.unclosed
-      (carried_one IsWellAt (IsOwing task) marked.seats b.well (λ was is now well. rw now (record { owing = refl; fed = well.fed; fit = λ counted. b.fit }))))
+      (back_owing stands within b marked.log marked.stands b.observed b.acted b.unclosed
+      (carried_one IsWellAt (IsOwing task) marked.states b.well (λ was is now well. rw now (record { owing = refl; fed = well.fed; fit = λ counted. b.fit }))))
 
-  pub landed_starved : {new : Books P} → IsBackWith told_by old i task done.Starved → IsMarked told_by NowStarves i old new → HasLanded told_by i task old new
+  pub landed_starved : {new : EngineState P} → IsBackWith observe old i task done.Starved → IsMarked observe NowStarves i old new → HasLanded observe i task old new
   landed_starved b marked =
       landed_marked stands within b refl stands (adds_none (IsFor i) old.log old.log refl) be_here marked b.out
-      (carried_one IsWellAt (λ seat. IsBack told_by seat.facts old.log i task) marked.seats b.well (λ was is now well. rw now (record {
+      (carried_one IsWellAt (λ state. IsBack observe state.facts old.log i task) marked.states b.well (λ was is now well. rw now (record {
         settled = λ owing going. owes_before b refl;
         answered = λ device owing going. b.answered device;
         kept = λ owing going. b.remembers;
-        task_is = (b.told, b.acted.come);
+        task_is = (b.observed, b.acted.come);
         shut = λ closed. b.acted.shut;
         fit = λ counted unfit. let no = rw unfit at b.fit in cc;
       })))
 
   -- AN ATTEMPT
-  module _ {sent : ℕ} {all : _} {answer : Reply} {new : Books P} (b : IsBackWith told_by old i task (done.Attempted all sent answer))
-      (spent : HasSpentBy told_by i (entry.Attempt i (joined (held old.log i)) (take sent all.value) answer) answer old new) where
+  module _ {sent : ℕ} {all : _} {answer : Reply} {new : EngineState P} (b : IsBackWith observe old i task (done.Attempted all sent answer))
+      (spent : HasSpentBy observe i (entry.Attempt i (joined (held old.log i)) (take sent all.value) answer) answer old new) where
     abbrev tried : Record
     tried = entry.Attempt i (joined (held old.log i)) (take sent all.value) answer ∷ old.log
 
-    arrived : IsArrived told_by spent.mid.log i task
+    arrived : IsArrived observe spent.mid.log i task
     arrived = rw spent.noted.steps.noted (record {
       out = b.out;
-      told = rw (stands_at old.log (Held i) stands.legal, ← b.held.held) b.told;
+      observed = rw (stands_at old.log (Held i) stands.legal, ← b.held.held) b.observed;
       come = come_under task.role old.log (entry.Attempt i (joined (held old.log i)) (take sent all.value) answer) i tt b.acted.come;
       answered = b.answered;
       kept = λ going. b.remembers;
@@ -303,18 +303,18 @@ module _ {P : Type 0} {told_by : P → Told} {i : ℕ} {task : Task P} {old : Bo
       fit = b.fit;
     })
 
-    -- what the attempt and its spends leave of the books, and of the task
+    -- what the attempt and its spends leave of the engine's state, and of the task
     record IsTried : Type 0 where
       leaves : Leaves old new
-      size : length new.seats ≡ length old.seats
-      arrived : IsArrived told_by new.log i task
+      size : length new.states ≡ length old.states
+      arrived : IsArrived observe new.log i task
       settled : cause_of new.log ≡ None → owes new.log i ≡ false
       behind : OnlyAdds (ComesBehind i) tried new.log
 
     -- where nothing is spent, the attempt alone
     unspent : new ≡ spent.mid → (cause_of tried ≡ None → owes tried i ≡ false) → IsTried
     unspent same settled =
-        let log = ap (λ (books : Books P). books.log) same ∙ spent.noted.steps.noted in
+        let log = ap (λ (engine : EngineState P). engine.log) same ∙ spent.noted.steps.noted in
         record {
           leaves = rw same spent.noted.leaves;
           size = rw same spent.noted.steps.size;
@@ -332,31 +332,31 @@ module _ {P : Type 0} {told_by : P → Told} {i : ℕ} {task : Task P} {old : Bo
         record {
           leaves = leaves_both spent.noted.leaves spends.leaves;
           size = spends.size ∙ spent.noted.steps.size;
-          arrived = spends_keep (λ h. IsArrived told_by h i task)
-              (λ h c is. let e = entry.Spent i c (outcome_of answer) in assumption (told_mute (told_by task.port) h e i tt is.told, come_mute task.role h e i tt is.come, is))
-              (λ h batch status is. let e = entry.Notice batch status in assumption (told_mute (told_by task.port) h e i tt is.told, come_mute task.role h e i tt is.come, is))
+          arrived = spends_keep (λ h. IsArrived observe h i task)
+              (λ h c is. let e = entry.Spent i c (outcome_of answer) in assumption (observed_mute (observe task.port) h e i tt is.observed, come_mute task.role h e i tt is.come, is))
+              (λ h batch status is. let e = entry.Notice batch status in assumption (observed_mute (observe task.port) h e i tt is.observed, come_mute task.role h e i tt is.come, is))
               spends.only arrived;
           settled = λ none. owes_attempted old.log new.log i (joined (held old.log i)) (take sent all.value) answer (outcome_of answer) (owes_before b refl)
               (rw spent.noted.steps.noted at spends.only) spent.stands.legal (spent.none going decided);
           behind = rw spent.noted.steps.noted at (spends_behind spends);
         }
 
-    pub landed_attempted : HasLanded told_by i task old new
+    pub landed_attempted : HasLanded observe i task old new
     landed_attempted =
         let t = is_tried (abandoned old.log) (decides old.log i answer) refl refl in
         landed_well stands within b refl spent.stands spent.only (be_stays t.leaves t.size) (well_on i t.leaves b.well) t.arrived t.settled
 
     pub well_attempted : IsWellLanded i old new
-    well_attempted = let t = is_tried (abandoned old.log) (decides old.log i answer) refl refl in record { fed = ap (λ (r : Run). r.short) t.leaves.run; seat = well_on i t.leaves b.well }
+    well_attempted = let t = is_tried (abandoned old.log) (decides old.log i answer) refl refl in record { fed = ap (λ (r : Run). r.out_of_memory) t.leaves.run; state = well_on i t.leaves b.well }
 
     pub attempt_behind : OnlyAdds (ComesBehind i) (entry.Attempt i (joined (at old.log (Held i))) (take sent all.value) answer ∷ old.log) new.log
     attempt_behind = rw (stands_at old.log (Held i) stands.legal) at ((is_tried (abandoned old.log) (decides old.log i answer) refl refl).behind)
 
   -- A READ
-  module _ {took : Turned} (mid : Books P) (b : IsBackWith told_by old i task (done.Read took))
-      (noted : IsSomeAnd (reading_of took) (λ reading. HasNotedRead told_by (is_none (cut_of took)) i (entry.Read i reading.stream reading.took) old mid)) where
-    found : (reading : Reading) × ((reading_of took ≡ Some reading) × HasNotedRead told_by (is_none (cut_of took)) i (entry.Read i reading.stream reading.took) old mid)
-    found = some_of (λ reading. HasNotedRead told_by (is_none (cut_of took)) i (entry.Read i reading.stream reading.took) old mid) (reading_of took) noted
+  module _ {took : Turned} (mid : EngineState P) (b : IsBackWith observe old i task (done.Read took))
+      (noted : IsSomeAnd (reading_of took) (λ reading. HasNotedRead observe (is_none (cut_of took)) i (entry.Read i reading.stream reading.took) old mid)) where
+    found : (reading : Reading) × ((reading_of took ≡ Some reading) × HasNotedRead observe (is_none (cut_of took)) i (entry.Read i reading.stream reading.took) old mid)
+    found = some_of (λ reading. HasNotedRead observe (is_none (cut_of took)) i (entry.Read i reading.stream reading.took) old mid) (reading_of took) noted
 
     abbrev read : Record
     read = entry.Read i found.0.stream found.0.took ∷ old.log
@@ -364,25 +364,25 @@ module _ {P : Type 0} {told_by : P → Told} {i : ℕ} {task : Task P} {old : Bo
     log : mid.log ≡ read
     log = found.1.1.steps.noted
 
-    told : IsTold (told_by task.port) read i
-    told = rw (entry_of old.log i took found.1.0) at b.told
+    observed : IsObserved (observe task.port) read i
+    observed = rw (entry_of old.log i took found.1.0) at b.observed
 
     be : LeavesBe i old mid
     be =
         let is = found.1.1 in
-        record { size = is.steps.size; rooms = is.leaves.rooms; run = is.leaves.run; others = others_one (staying.HasRead (is_none (cut_of took))) i old.seats mid.seats is.leaves.seats }
+        record { size = is.steps.size; capacities = is.leaves.capacities; run = is.leaves.run; others = others_one (staying.HasRead (is_none (cut_of took))) i old.states mid.states is.leaves.states }
 
     -- the turn, and nothing behind it
     pub nothing_behind : {new : Record} → new ≡ mid.log → OnlyAdds (ComesBehind i) (turn_entry old.log i took ∷ old.log) new
     nothing_behind {new} same = adds_none (ComesBehind i) (turn_entry old.log i took ∷ old.log) new (rw (same, log, entry_of old.log i took found.1.0) refl)
 
     -- no memory was found to cut it
-    pub landed_uncut : {new : Books P} → cut_of took ≡ None → IsMarked told_by NowOwes i mid new → HasLanded told_by i task old new
+    pub landed_uncut : {new : EngineState P} → cut_of took ≡ None → IsMarked observe NowOwes i mid new → HasLanded observe i task old new
     landed_uncut cuts marked =
         landed_marked stands within b log found.1.1.steps.stands found.1.1.only be marked b.out
-        (back_owing stands within b (marked.log ∙ log) marked.stands told (role_uncut task.role read old.log i took found.0 found.1.0 cuts b.acted.come b.fit) b.unclosed
-        (carried_one (λ seat. (seat.facts.starved ≡ false) × (seat.facts.behind ≡ true)) (IsOwing task) marked.seats
-        (carried_one IsWellAt (λ seat. (seat.facts.starved ≡ false) × (seat.facts.behind ≡ true)) found.1.1.leaves.seats b.well
+        (back_owing stands within b (marked.log ∙ log) marked.stands observed (role_uncut task.role read old.log i took found.0 found.1.0 cuts b.acted.come b.fit) b.unclosed
+        (carried_one (λ state. (state.facts.starved ≡ false) × (state.facts.behind ≡ true)) (IsOwing task) marked.states
+        (carried_one IsWellAt (λ state. (state.facts.starved ≡ false) × (state.facts.behind ≡ true)) found.1.1.leaves.states b.well
         (λ was is reads well. (reads.starved ∙ well.fed, rw cuts at reads.behind)))
         (λ was is now lost. rw now (record { owing = refl; fed = lost.0; fit = λ counted. let not = lost.1 in cc }))))
 
@@ -390,8 +390,8 @@ module _ {P : Type 0} {told_by : P → Told} {i : ℕ} {task : Task P} {old : Bo
       taken : HasCome read i task.role × (IsCutOf old.log i found.0.stream found.0.took cut × (is_unfit task.role ≡ false))
       taken = role_cut task.role old.log i took found.0 cut found.1.0 cuts b.acted.come b.fit
 
-      well_mid : IfSome (slice_get mid.seats i) IsWellAt
-      well_mid = carried_one IsWellAt IsWellAt found.1.1.leaves.seats b.well
+      well_mid : IfSome (slice_get mid.states i) IsWellAt
+      well_mid = carried_one IsWellAt IsWellAt found.1.1.leaves.states b.well
           (λ was is reads well. record { settled = reads.owing ∙ well.settled; counted = (rw cuts at reads.behind) ∙ well.counted; fed = reads.starved ∙ well.fed })
 
       pub yields : {stream : ℕ} → IsSomeAnd (reading_of took) (λ reading. reading.stream ≡ stream) → 0 < length cut.events →
@@ -403,49 +403,49 @@ module _ {P : Type 0} {told_by : P → Told} {i : ℕ} {task : Task P} {old : Bo
       unyielding (inl none) going = owes_barren old.log i found.0.stream found.0.took (sym taken.1.0.events ∙ none) (owes_before b refl)
       unyielding (inr over) going = let not = unabandoned read going in let is = rw log at over in cc
 
-      pub landed_cut : {stream : ℕ} {new : Books P} → HasBorneCut told_by i stream cut mid new → Leaves mid new → length new.seats ≡ length mid.seats →
-          HasLanded told_by i task old new
+      pub landed_cut : {stream : ℕ} {new : EngineState P} → HasCreatedCutBatch observe i stream cut mid new → Leaves mid new → length new.states ≡ length mid.states →
+          HasLanded observe i task old new
       landed_cut {stream} (inl barren) leaves size =
           rw barren.1 (landed_well stands within b log found.1.1.steps.stands found.1.1.only be well_mid
-          (record { out = b.out; told = told; come = taken.0; answered = b.answered; kept = λ going. b.remembers; shut = λ closed. cc; fit = taken.1.1 }) (unyielding barren.0))
-      landed_cut {stream} (inr borne) leaves size =
+          (record { out = b.out; observed = observed; come = taken.0; answered = b.answered; kept = λ going. b.remembers; shut = λ closed. cc; fit = taken.1.1 }) (unyielding barren.0))
+      landed_cut {stream} (inr created) leaves size =
           let next = next_copy mid.log in
           let e = entry.Born i next next (counting next (length cut.events)) cut.events (must_wait mid.log i) stream cut.end in
-          landed_well stands within b (borne.1.noted ∙ ap (λ (h : Record). e ∷ h) log) borne.1.stands (adds_step found.1.1.only (for_own e i mid.log refl) borne.1)
+          landed_well stands within b (created.1.noted ∙ ap (λ (h : Record). e ∷ h) log) created.1.stands (adds_step found.1.1.only (for_own e i mid.log refl) created.1)
           (be_both be (be_stays leaves size)) (well_on i leaves well_mid)
           (record {
             out = b.out;
-            told = told_mute (told_by task.port) read e i tt told;
+            observed = observed_mute (observe task.port) read e i tt observed;
             come = come_mute task.role read e i tt taken.0;
             answered = b.answered;
             kept = λ going. b.remembers;
             shut = λ closed. cc;
             fit = taken.1.1;
           })
-          (λ going. owes_borne old.log i found.0.stream found.0.took next next (counting next (length cut.events)) cut.events (must_wait mid.log i) stream cut.end (owes_before b refl))
+          (λ going. owes_created old.log i found.0.stream found.0.took next next (counting next (length cut.events)) cut.events (must_wait mid.log i) stream cut.end (owes_before b refl))
 
-      pub well_cut : {new : Books P} → Leaves mid new → IsWellLanded i old new
-      well_cut leaves = record { fed = ap (λ (r : Run). r.short) (leaves.run ∙ be.run); seat = well_on i leaves well_mid }
+      pub well_cut : {new : EngineState P} → Leaves mid new → IsWellLanded i old new
+      well_cut leaves = record { fed = ap (λ (r : Run). r.out_of_memory) (leaves.run ∙ be.run); state = well_on i leaves well_mid }
 
-      pub born_behind : {stream : ℕ} {new : Books P} → HasBorneCut told_by i stream cut mid new →
+      pub born_behind : {stream : ℕ} {new : EngineState P} → HasCreatedCutBatch observe i stream cut mid new →
           OnlyAdds (ComesBehind i) (turn_entry old.log i took ∷ old.log) new.log
-      born_behind (inl barren) = nothing_behind (ap (λ (books : Books P). books.log) barren.1)
-      born_behind (inr borne) = adds_step (nothing_behind refl) refl borne.1
+      born_behind (inl barren) = nothing_behind (ap (λ (engine : EngineState P). engine.log) barren.1)
+      born_behind (inr created) = adds_step (nothing_behind refl) refl created.1
 
       -- it couldn't be
-      pub landed_unborn : {new : Books P} → Stands told_by new → new.log ≡ mid.log → length new.seats ≡ length mid.seats → SameRooms mid.places new.places →
-          new.run ≡ mid.run → IsOwingNow i mid.seats new.seats → HasLanded told_by i task old new
-      landed_unborn {new} now same size rooms run owing =
-          let marks = both_are Owes (slice_get mid.seats i) (slice_get new.seats i) owing.one in
+      pub landed_unborn : {new : EngineState P} → Stands observe new → new.log ≡ mid.log → length new.states ≡ length mid.states → SameCapacities mid.places new.places →
+          new.run ≡ mid.run → IsOwingNow i mid.states new.states → HasLanded observe i task old new
+      landed_unborn {new} now same size capacities run owing =
+          let marks = both_are Owes (slice_get mid.states i) (slice_get new.states i) owing.one in
           landed_by stands within b (same ∙ log) now (rw same found.1.1.only)
-          (lands (be_both be (record { size = size; rooms = rooms; run = run; others = owing.others }))
-          (carried Owes IsWellAt IsFedAt (slice_get mid.seats i) (slice_get new.seats i) marks well_mid
+          (lands (be_both be (record { size = size; capacities = capacities; run = run; others = owing.others }))
+          (carried Owes IsWellAt IsFedAt (slice_get mid.states i) (slice_get new.states i) marks well_mid
           (λ was is owes well. record { counted = owes.counted ∙ well.counted; fed = owes.fed ∙ well.fed })))
           b.out
-          (back_owing stands within b (same ∙ log) now told taken.0 b.unclosed
-          (carried Owes IsWellAt (IsOwing task) (slice_get mid.seats i) (slice_get new.seats i) marks well_mid
+          (back_owing stands within b (same ∙ log) now observed taken.0 b.unclosed
+          (carried Owes IsWellAt (IsOwing task) (slice_get mid.states i) (slice_get new.states i) marks well_mid
           (λ was is owes well. record { owing = owes.owing; fed = owes.fed ∙ well.fed; fit = λ counted. taken.1.1 })))
-          (λ fed. record { settled = settled_read old.log i found.0.stream found.0.took (settled_by old.log i (deeds_none old.log i b.settled).spends); told = b.answered })
+          (λ fed. record { settled = settled_read old.log i found.0.stream found.0.took (settled_by old.log i (work_entries_none old.log i b.settled).spends); observed = b.answered })
 
       -- for which the run may be given up
       pub lacks : (stream : ℕ) {new : Record} (short : Short) → IsSomeAnd (reading_of took) (λ reading. reading.stream ≡ stream) → new ≡ mid.log →

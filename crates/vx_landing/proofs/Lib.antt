@@ -1,11 +1,11 @@
 pub mod Answering
 pub mod Judging
 pub mod Landed
-pub mod LandedBooks
+pub mod LandedEngine
 pub mod Lending
 pub mod Owing
-pub mod Seating
+pub mod States
 pub mod Serving
-pub mod ToldOut
+pub mod ObservedOut
 pub mod Deciding
 pub mod Merged

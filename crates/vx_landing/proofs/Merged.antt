@@ -1,9 +1,9 @@
--- An instance that merges: what it takes and answers while it is out, and what is left once it is home.
+-- An instance that merges: what it takes and answers while it is out, and what is left once it is unleased.
 use Rattle.std.proofs.Common.{◌≡◌, ◌≢◌, ◌∙◌, ℕ, ◌+◌, ◌<◌, ◌≤◌, Bool, true, false, List, [], ◌∷◌, ◌++◌, length, Option, Some, None, IfSome, IsSomeAnd, refl, sym, ap, arith, inl, inr}
 use Rattle.std.specs.Prelude.{◌==◌, ◌&&◌, ◌||◌, not, nat_lt, is_some, slice_get, if◌then◌else◌, Result, Ok, Err, OnOk, OnErr}
 use Rattle.std.proofs.lemmas.Bool.{and_parts, and_right, cases_eq, or_parts}
 use Rattle.std.proofs.lemmas.Bool.Decides.{nat_tests}
-use Rattle.vx_ends.specs.Told.{Told}
+use Rattle.vx_ends.specs.Observation.{Observation}
 use Rattle.vx_ends.specs.declared.position.Position.{Position}
 use Rattle.vx_value.specs.Texts.{is_empty}
 use Rattle.vx_condition.specs.Steps.{Test}
@@ -38,19 +38,19 @@ use Rattle.vx_record.proofs.Lasting.{leased_unclosed}
 use Rattle.vx_record.proofs.Shifting.{stands_at}
 use Rattle.vx_record.proofs.TasksOut.{out_to_worker}
 use Rattle.vx_counts.proofs.Once.{itself}
-use Rattle.vx_places.specs.Rooms.{SameRooms}
+use Rattle.vx_places.specs.Capacities.{SameCapacities}
 use Rattle.vx_tasks.specs.declared.task.Role.{Role}
 use Rattle.vx_tasks.specs.declared.task.Role.TheVariants as role
 use Rattle.vx_tasks.specs.declared.task.Task.{Task}
-use Rattle.vx_tasks.specs.Home.{HasCome, HasKept, IsAtHome}
+use Rattle.vx_tasks.specs.Unleased.{HasCome, HasKept, IsTaskOf}
 use Rattle.vx_tasks.specs.Joining.{is_joining, joins_at}
 use Rattle.vx_tasks.proofs.Discarding.{unspent_less}
-use Rattle.vx_seats.specs.Calls.{HasTaskBack, IsBack}
-use Rattle.vx_seats.specs.Knowing.{HasHome, IsKnown, Knows}
-use Rattle.vx_seats.specs.Staying.{EachSeat, IsLeft, OneSeat, SameFlags, Stays}
-use Rattle.vx_seats.specs.declared.seat.Seat.{Seat}
-use Rattle.vx_seats.proofs.Telling.{IsMute, come_mute, told_mute}
-use Rattle.vx_moves.specs.declared.books.Books.{Books}
+use Rattle.vx_instances.specs.Calls.{HasTaskBack, IsBack}
+use Rattle.vx_instances.specs.Knowing.{HasUnleasedTask, IsKnown, Knows}
+use Rattle.vx_instances.specs.Staying.{EachState, IsLeft, OneState, SameFlags, Stays}
+use Rattle.vx_instances.specs.declared.state.InstanceState.{InstanceState}
+use Rattle.vx_instances.proofs.Observing.{IsMute, come_mute, observed_mute}
+use Rattle.vx_moves.specs.declared.engine.EngineState.{EngineState}
 use Rattle.vx_moves.specs.declared.run.Run.{Run}
 use Rattle.vx_moves.specs.Leasing.{HasLent}
 use Rattle.vx_moves.specs.Leaving.{Leaves}
@@ -67,10 +67,10 @@ use Rattle.vx_landing.specs.Landings.{IsOwingNow, OthersStay, Owes, owes_entries
 use Rattle.vx_landing.specs.Merging.{ComesMerged, HasInputs, HasMerged, HasSameTask, HasTakenOne, HasTakenSome, HasWorked, HasWorkedWell, IsMergeStep, IsMerging, IsTaking}
 use Rattle.vx_landing.specs.Standing.{AwayIsWell, IsFed, IsFedAt, IsWell, LentWhileOut}
 use Rattle.vx_landing.proofs.Answering.{for_own, leaves_both}
-use Rattle.vx_landing.proofs.LandedBooks.{fed_flags, others_out, well_flags}
-use Rattle.vx_landing.proofs.Lending.{lent_room, room_lent}
-use Rattle.vx_landing.proofs.Owing.{OwesDeeds, deeds_none, deeds_on, entries_none, owes_none, owes_parts, settled_by}
-use Rattle.vx_landing.proofs.Seating.{Beside, NowHas, NowOwes, beside, both_are, both_said, carried, each_flags, flags_home, flags_then, others_both, others_one, owing_now}
+use Rattle.vx_landing.proofs.LandedEngine.{fed_flags, others_out, well_flags}
+use Rattle.vx_landing.proofs.Lending.{lent_capacity, capacity_lent}
+use Rattle.vx_landing.proofs.Owing.{OwesWorkEntries, work_entries_none, work_entries_on, entries_none, owes_none, owes_parts, settled_by}
+use Rattle.vx_landing.proofs.States.{Beside, NowHas, NowOwes, beside, both_are, both_said, carried, each_flags, flags_returned, flags_then, others_both, others_one, owing_now}
 
 -- WHO MERGES
 -- it works with no port
@@ -165,19 +165,19 @@ taken_in h i s copies = record {
   holds = rw (itself i) (not_none (at h (Held i)) copies);
 }
 
-module _ {P : Type 0} {told_by : P → Told} {i now : ℕ} where
-  pub may_take : {books : Books P} → Stands told_by books → IsTaking books.log i now → length (since_lease books.log i) < 64 → MayTakeNow books.log i
-  may_take {books} stands taking few = record {
+module _ {P : Type 0} {observe : P → Observation} {i now : ℕ} where
+  pub may_take : {engine : EngineState P} → Stands observe engine → IsTaking engine.log i now → length (since_lease engine.log i) < 64 → MayTakeNow engine.log i
+  may_take {engine} stands taking few = record {
     going = taking.going;
     out = taking.out;
     only_takes = taking.only_takes;
     few = few;
-    unclosed = λ sink. let alone = sink_alone books.log i sink in let joins = taking.joins in cc;
+    unclosed = λ sink. let alone = sink_alone engine.log i sink in let joins = taking.joins in cc;
     unticked = λ transform. unticked_at i stands taking.joins;
   }
 
-  pub taken_one : {s : ℕ} {copies : List ℕ} {old new : Books P} → IsTaking old.log i now → Steps told_by (Take i s copies) old new → Leaves old new →
-      HasTakenOne told_by i now old new
+  pub taken_one : {s : ℕ} {copies : List ℕ} {old new : EngineState P} → IsTaking old.log i now → Steps observe (Take i s copies) old new → Leaves old new →
+      HasTakenOne observe i now old new
   taken_one {s} {copies} {old} {new} was steps leaves = record {
     stands = steps.stands;
     taking = rw steps.noted (record {
@@ -194,20 +194,20 @@ module _ {P : Type 0} {told_by : P → Told} {i now : ℕ} where
     size = steps.size;
   }
 
-  pub some_none : {books : Books P} → Stands told_by books → IsTaking books.log i now → length (since_lease books.log i) ≡ 0 → HasTakenSome told_by i now 0 books books
-  some_none {books} stands taking fresh = record {
+  pub some_none : {engine : EngineState P} → Stands observe engine → IsTaking engine.log i now → length (since_lease engine.log i) ≡ 0 → HasTakenSome observe i now 0 engine engine
+  some_none {engine} stands taking fresh = record {
     stands = stands;
     taking = taking;
     many = fresh;
     some = λ less. absurd (omega (arith, less));
     none = λ _. refl;
-    only = adds_none (IsMergeStep i) books.log books.log refl;
-    leaves = record { seats = each_stays books.seats; rooms = λ j. (refl, refl); run = refl };
+    only = adds_none (IsMergeStep i) engine.log engine.log refl;
+    leaves = record { states = each_stays engine.states; capacities = λ j. (refl, refl); run = refl };
     size = refl;
   }
 
-  pub some_more : {taken : ℕ} {old mid new : Books P} → HasTakenSome told_by i now taken old mid → HasTakenOne told_by i now mid new →
-      HasTakenSome told_by i now (taken + 1) old new
+  pub some_more : {taken : ℕ} {old mid new : EngineState P} → HasTakenSome observe i now taken old mid → HasTakenOne observe i now mid new →
+      HasTakenSome observe i now (taken + 1) old new
   some_more {taken} {old} {mid} {new} before one = record {
     stands = one.stands;
     taking = one.taking;
@@ -219,8 +219,8 @@ module _ {P : Type 0} {told_by : P → Told} {i now : ℕ} where
     size = one.size ∙ before.size;
   }
 
-  pub may_merge : {books : Books P} → Stands told_by books → IsMerging books.log i now → at books.log (Held i) ≢ [] → MayMerge books.log i now
-  may_merge {books} stands merging holds = record {
+  pub may_merge : {engine : EngineState P} → Stands observe engine → IsMerging engine.log i now → at engine.log (Held i) ≢ [] → MayMerge engine.log i now
+  may_merge {engine} stands merging holds = record {
     joins = merging.joins;
     going = merging.going;
     out = merging.out;
@@ -299,150 +299,150 @@ steps_both {i} {old} {mid} {new} took answers =
 
 module _ {P : Type 0} where
   -- the tasks
-  task_stays : (old new : List (Seat P)) → EachSeat Stays old new → EachSeat HasSameTask old new
+  task_stays : (old new : List (InstanceState P)) → EachState Stays old new → EachState HasSameTask old new
   task_stays old new each j = beside Stays HasSameTask (slice_get old j) (slice_get new j) (λ was is stays. stays.task) (each j)
 
-  task_both : (x y z : Option (Seat P)) → Beside HasSameTask x y → Beside HasSameTask y z → Beside HasSameTask x z
+  task_both : (x y z : Option (InstanceState P)) → Beside HasSameTask x y → Beside HasSameTask y z → Beside HasSameTask x z
   task_both x y None first second = tt
   task_both x None (Some z) first second = absurd second
   task_both None (Some y) (Some z) first second = absurd first
   task_both (Some x) (Some y) (Some z) first second = second ∙ first
 
-  task_here : (o : Option (Seat P)) → Beside HasSameTask o o
+  task_here : (o : Option (InstanceState P)) → Beside HasSameTask o o
   task_here None = tt
-  task_here (Some seat) = refl
+  task_here (Some state) = refl
 
   -- whose owing isn't known keeps its task
-  task_owes : (i : ℕ) (old new : List (Seat P)) → OneSeat NowOwes i old new → EachSeat HasSameTask old new
+  task_owes : (i : ℕ) (old new : List (InstanceState P)) → OneState NowOwes i old new → EachState HasSameTask old new
   task_owes i old new one j = elim (cases_eq j i) [
     | inl same ↦ rw same (beside NowOwes HasSameTask (slice_get old i) (slice_get new i) (λ was is owes. rw owes refl)
         (both_are NowOwes (slice_get old i) (slice_get new i) one.one))
     | inr other ↦ rw (one.others j other) (task_here (slice_get old j))
   ]
 
-  -- the books stand with seats of which less is said
-  pub seats_stand : {told_by : P → Told} {books : Books P} {seats : List (Seat P)} → Stands told_by books → length seats ≡ length books.seats →
-      Knows told_by seats books.log → Stands told_by (record books { seats = seats })
-  seats_stand stands size knows = assumption (stands.size ∙ sym size)
+  -- the engine's state stands with states of which less is said
+  pub states_stand : {observe : P → Observation} {engine : EngineState P} {states : List (InstanceState P)} → Stands observe engine → length states ≡ length engine.states →
+      Knows observe states engine.log → Stands observe (record engine { states = states })
+  states_stand stands size knows = assumption (stands.size ∙ sym size)
 
-  pub served_still : {old new : Books P} → IsServed old → new.run.plan ≡ old.run.plan → length new.seats ≡ length old.seats → IsServed new
+  pub served_still : {old new : EngineState P} → IsServed old → new.run.plan ≡ old.run.plan → length new.states ≡ length old.states → IsServed new
   served_still served plan size = record { served = rw plan served.served; few = rw size served.few }
 
-  module _ {told_by : P → Told} {i : ℕ} {old mid : Books P} (stands : Stands told_by mid) (only : OnlyAdds (IsMergeStep i) old.log mid.log)
-      (leaves : Leaves old mid) (size : length mid.seats ≡ length old.seats) where
-    pub worked_well : HasWorked told_by i old mid
+  module _ {observe : P → Observation} {i : ℕ} {old mid : EngineState P} (stands : Stands observe mid) (only : OnlyAdds (IsMergeStep i) old.log mid.log)
+      (leaves : Leaves old mid) (size : length mid.states ≡ length old.states) where
+    pub worked_well : HasWorked observe i old mid
     worked_well = record {
       stands = stands;
       only = only;
       size = size;
-      rooms = leaves.rooms;
+      capacities = leaves.capacities;
       run = leaves.run;
-      tasks = task_stays old.seats mid.seats leaves.seats;
-      others = λ j other. each_flags old.seats mid.seats leaves.seats j;
-      fed = fed_flags (slice_get old.seats i) (slice_get mid.seats i) (each_flags old.seats mid.seats leaves.seats i);
+      tasks = task_stays old.states mid.states leaves.states;
+      others = λ j other. each_flags old.states mid.states leaves.states j;
+      fed = fed_flags (slice_get old.states i) (slice_get mid.states i) (each_flags old.states mid.states leaves.states i);
     }
 
     -- or memory was wanting
-    pub worked_owing : {seats : List (Seat P)} → length seats ≡ length mid.seats → OneSeat NowOwes i mid.seats seats → Knows told_by seats mid.log →
-        HasWorked told_by i old (record mid { seats = seats })
-    worked_owing {seats} many owes knows =
-        let owing = owing_now i old.seats mid.seats seats leaves.seats owes in
+    pub worked_owing : {states : List (InstanceState P)} → length states ≡ length mid.states → OneState NowOwes i mid.states states → Knows observe states mid.log →
+        HasWorked observe i old (record mid { states = states })
+    worked_owing {states} many owes knows =
+        let owing = owing_now i old.states mid.states states leaves.states owes in
         record {
-          stands = seats_stand stands many knows;
+          stands = states_stand stands many knows;
           only = only;
           size = many ∙ size;
-          rooms = leaves.rooms;
+          capacities = leaves.capacities;
           run = leaves.run;
-          tasks = λ j. task_both (slice_get old.seats j) (slice_get mid.seats j) (slice_get seats j) (task_stays old.seats mid.seats leaves.seats j)
-              (task_owes i mid.seats seats owes j);
+          tasks = λ j. task_both (slice_get old.states j) (slice_get mid.states j) (slice_get states j) (task_stays old.states mid.states leaves.states j)
+              (task_owes i mid.states states owes j);
           others = owing.others;
-          fed = λ fed. carried Owes IsFedAt IsFedAt (slice_get old.seats i) (slice_get seats i) (both_are Owes (slice_get old.seats i) (slice_get seats i) owing.one) fed
+          fed = λ fed. carried Owes IsFedAt IsFedAt (slice_get old.states i) (slice_get states i) (both_are Owes (slice_get old.states i) (slice_get states i) owing.one) fed
               (λ was is now fed. record { counted = now.counted ∙ fed.counted; fed = now.fed ∙ fed.fed });
         }
 
 -- WHILE IT IS OUT
 -- what stays so of it
-pub record Goes {P : Type 0} (told_by : P → Told) (i worker : ℕ) (task : Task P) (h : Record) : Type 0 where
+pub record Goes {P : Type 0} (observe : P → Observation) (i worker : ℕ) (task : Task P) (h : Record) : Type 0 where
   pub joins : joins_at h i ≡ true
   pub to : out_to h i ≡ Some worker
-  pub deeds : OwesDeeds h i
+  pub work_entries : OwesWorkEntries h i
   pub discards : owes_discards h i ≡ false
-  pub home : IsAtHome told_by h i task
+  pub unleased : IsTaskOf observe h i task
   pub unclosed : is_closed h i ≡ false
 
-muted : {P : Type 0} (told_by : P → Told) (i : ℕ) (task : Task P) (h : Record) (e : Entry) → IsMute e → IsAtHome told_by h i task → IsAtHome told_by (e ∷ h) i task
-muted told_by i task h e mute home =
-    record { told = told_mute (told_by task.port) h e i mute home.told; come = come_mute task.role h e i mute home.come }
+muted : {P : Type 0} (observe : P → Observation) (i : ℕ) (task : Task P) (h : Record) (e : Entry) → IsMute e → IsTaskOf observe h i task → IsTaskOf observe (e ∷ h) i task
+muted observe i task h e mute unleased =
+    record { observed = observed_mute (observe task.port) h e i mute unleased.observed; come = come_mute task.role h e i mute unleased.come }
 
-goes_on : {P : Type 0} (told_by : P → Told) (i worker : ℕ) (task : Task P) (h : Record) (e : Entry) → Follows h e → IsMergeStep i h e →
-    Goes told_by i worker task h → Goes told_by i worker task (e ∷ h)
-goes_on told_by i worker task h (Take j s copies) follows same was = record {
+goes_on : {P : Type 0} (observe : P → Observation) (i worker : ℕ) (task : Task P) (h : Record) (e : Entry) → Follows h e → IsMergeStep i h e →
+    Goes observe i worker task h → Goes observe i worker task (e ∷ h)
+goes_on observe i worker task h (Take j s copies) follows same was = record {
   joins = was.joins;
   to = was.to;
-  deeds = deeds_on h (Take j s copies) i refl refl refl was.deeds;
+  work_entries = work_entries_on h (Take j s copies) i refl refl refl was.work_entries;
   discards = unspent_less h (Take j s copies) (last_discarded h i) was.discards;
-  home = muted told_by i task h (Take j s copies) tt was.home;
+  unleased = muted observe i task h (Take j s copies) tt was.unleased;
   unclosed = was.unclosed;
 }
-goes_on told_by i worker task h (Tick j now) follows same was = record {
+goes_on observe i worker task h (Tick j now) follows same was = record {
   joins = was.joins;
   to = was.to;
-  deeds = deeds_on h (Tick j now) i refl refl refl was.deeds;
+  work_entries = work_entries_on h (Tick j now) i refl refl refl was.work_entries;
   discards = unspent_less h (Tick j now) (last_discarded h i) was.discards;
-  home = muted told_by i task h (Tick j now) tt was.home;
+  unleased = muted observe i task h (Tick j now) tt was.unleased;
   unclosed = was.unclosed;
 }
-goes_on told_by i worker task h (Answer j outputs discarded kept) follows same was = record {
+goes_on observe i worker task h (Answer j outputs discarded kept) follows same was = record {
   joins = was.joins;
   to = was.to;
-  deeds = deeds_on h (Answer j outputs discarded kept) i refl refl refl was.deeds;
+  work_entries = work_entries_on h (Answer j outputs discarded kept) i refl refl refl was.work_entries;
   discards =
       let row : MayAnswer h j outputs discarded kept = follows.row in
       let none : discarded ≡ [] = joins_discard h j row.rule discarded (rw same was.joins) row.follows row.refused in
       rw (same, itself i, none) refl;
-  home = muted told_by i task h (Answer j outputs discarded kept) tt was.home;
+  unleased = muted observe i task h (Answer j outputs discarded kept) tt was.unleased;
   unclosed = was.unclosed;
 }
-goes_on told_by i worker task h e follows same was = absurd same
+goes_on observe i worker task h e follows same was = absurd same
 
--- a seat whose task is out is fit to have it back
-record IsFitBack {P : Type 0} (task : Task P) (seat : Seat P) : Type 0 where
-  fed : seat.facts.starved ≡ false
-  fit : seat.facts.behind ≡ false → task.role ≢ role.Unfit
+-- a state whose task is out is fit to have it back
+record IsFitBack {P : Type 0} (task : Task P) (state : InstanceState P) : Type 0 where
+  fed : state.facts.starved ≡ false
+  fit : state.facts.behind ≡ false → task.role ≢ role.Unfit
 
 -- and owes nothing where that is known
-pub record IsBackFit {P : Type 0} (task : Task P) (h : Record) (i : ℕ) (seat : Seat P) : Type 0 where
-  pub fed : seat.facts.starved ≡ false
-  pub fit : seat.facts.behind ≡ false → task.role ≢ role.Unfit
-  pub settled : seat.facts.owing ≡ false → owes h i ≡ false
+pub record IsBackFit {P : Type 0} (task : Task P) (h : Record) (i : ℕ) (state : InstanceState P) : Type 0 where
+  pub fed : state.facts.starved ≡ false
+  pub fit : state.facts.behind ≡ false → task.role ≢ role.Unfit
+  pub settled : state.facts.owing ≡ false → owes h i ≡ false
 
-left_fit : {P : Type 0} (told_by : P → Told) (h : Record) (i : ℕ) (task : Task P) (o n : Option (Seat P)) →
-    IsSomeAnd o (λ was. IsSomeAnd n (λ is. IsLeft task was is)) → IfSome o (λ seat. IsKnown told_by seat h i) →
-    IfSome o (λ seat. seat.facts.starved ≡ false) → IfSome n (IsFitBack task)
-left_fit told_by h i task None n left known fed = absurd left
-left_fit told_by h i task (Some was) None left known fed = tt
-left_fit told_by h i task (Some was) (Some is) left known fed =
-    let home : HasHome told_by was.facts h i task = rw left.had at known.home in
-    record { fed = left.flags.starved ∙ fed; fit = λ counted. home.fit (sym left.flags.behind ∙ counted) }
+left_fit : {P : Type 0} (observe : P → Observation) (h : Record) (i : ℕ) (task : Task P) (o n : Option (InstanceState P)) →
+    IsSomeAnd o (λ was. IsSomeAnd n (λ is. IsLeft task was is)) → IfSome o (λ state. IsKnown observe state h i) →
+    IfSome o (λ state. state.facts.starved ≡ false) → IfSome n (IsFitBack task)
+left_fit observe h i task None n left known fed = absurd left
+left_fit observe h i task (Some was) None left known fed = tt
+left_fit observe h i task (Some was) (Some is) left known fed =
+    let unleased : HasUnleasedTask observe was.facts h i task = rw left.had at known.unleased in
+    record { fed = left.flags.starved ∙ fed; fit = λ counted. unleased.fit (sym left.flags.behind ∙ counted) }
 
 -- what it owes once it answered all that it was given
-settled_all : {P : Type 0} {told_by : P → Told} {i worker : ℕ} {task : Task P} (h : Record) → Goes told_by i worker task h → unanswered h i ≡ [] → owes h i ≡ false
+settled_all : {P : Type 0} {observe : P → Observation} {i worker : ℕ} {task : Task P} (h : Record) → Goes observe i worker task h → unanswered h i ≡ [] → owes h i ≡ false
 settled_all {i = i} h goes none =
-    owes_none h i (entries_none h i goes.deeds goes.discards) (and_right (transform_at h i) (took_since h i) (taken_none h i none))
+    owes_none h i (entries_none h i goes.work_entries goes.discards) (and_right (transform_at h i) (took_since h i) (taken_none h i none))
 
 -- THE LEASE
 -- what may be leased owes nothing
-owes_parts_at : {P : Type 0} {told_by : P → Told} {i now : ℕ} {old : Books P} → Stands told_by old → IsLeasable old i now → old.run.latest ≤ now →
+owes_parts_at : {P : Type 0} {observe : P → Observation} {i now : ℕ} {old : EngineState P} → Stands observe old → IsLeasable old i now → old.run.latest ≤ now →
     (owes_entries old.log i ≡ false) × (owes_answer old.log i ≡ false)
 owes_parts_at {i = i} {old = old} stands leasable latest =
     let later = stands.run.later 0 in owes_parts old.log i (leasable.may 0 (omega (arith, later, latest))).settled
 
-module _ {P : Type 0} {told_by : P → Told} {i worker now : ℕ} {old : Books P} (stands : Stands told_by old) (leasable : IsLeasable old i now)
+module _ {P : Type 0} {observe : P → Observation} {i worker now : ℕ} {old : EngineState P} (stands : Stands observe old) (leasable : IsLeasable old i now)
     (latest : old.run.latest ≤ now) (joins : joins_at old.log i ≡ true) where
   pub may_lease : MayLease old.log i worker now 0
   may_lease = let later = stands.run.later worker in leasable.may worker (omega (arith, later, latest))
 
-  module _ {task : Task P} {positions : Option (List Position)} {mid : Books P} (lent : HasLent told_by i worker now task positions old mid) where
+  module _ {task : Task P} {positions : Option (List Position)} {mid : EngineState P} (lent : HasLent observe i worker now task positions old mid) where
     pub taking_first : IsTaking mid.log i now
     taking_first = rw lent.steps.noted (record {
       joins = joins;
@@ -458,7 +458,7 @@ module _ {P : Type 0} {told_by : P → Told} {i worker now : ℕ} {old : Books P
     pub bare_first : unanswered mid.log i ≡ []
     bare_first = rw lent.steps.noted (given_none old.log i (unowed old.log i joins (owes_parts_at stands leasable latest).1) (unticked_at i stands joins))
 
-    goes_first : Goes told_by i worker task mid.log
+    goes_first : Goes observe i worker task mid.log
     goes_first =
         let h = old.log in
         let e = Lease i worker now 0 in
@@ -466,19 +466,19 @@ module _ {P : Type 0} {told_by : P → Told} {i worker now : ℕ} {old : Books P
         rw lent.steps.noted (record {
           joins = joins;
           to = rw (itself i) refl;
-          deeds = deeds_on h e i refl refl refl (deeds_none h i none.0);
+          work_entries = work_entries_on h e i refl refl refl (work_entries_none h i none.0);
           discards = unspent_less h e (last_discarded h i) (or_parts (owes_birth h i || owes_spends_in h h i) (owes_discards h i) none.0).1;
-          home = rw lent.steps.noted at lent.home;
+          unleased = rw lent.steps.noted at lent.unleased;
           unclosed = leased_unclosed h i worker now 0 (rw lent.steps.noted at lent.steps.stands.legal);
         })
 
-    fit_first : IfSome (slice_get mid.seats i) (IsFitBack task)
-    fit_first = left_fit told_by old.log i task (slice_get old.seats i) (slice_get mid.seats i) lent.seats.one (stands.seats.each i) leasable.fit.fed
+    fit_first : IfSome (slice_get mid.states i) (IsFitBack task)
+    fit_first = left_fit observe old.log i task (slice_get old.states i) (slice_get mid.states i) lent.states.one (stands.states.each i) leasable.fit.fed
 
     -- THE WAY HOME
-    module _ {four : Books P} (worked : HasWorked told_by i mid four) where
-      goes_last : Goes told_by i worker task four.log
-      goes_last = carry (IsMergeStep i) (Goes told_by i worker task) (goes_on told_by i worker task) mid.log four.log worked.only goes_first
+    module _ {four : EngineState P} (worked : HasWorked observe i mid four) where
+      goes_last : Goes observe i worker task four.log
+      goes_last = carry (IsMergeStep i) (Goes observe i worker task) (goes_on observe i worker task) mid.log four.log worked.only goes_first
 
       pub out_last : is_out four.log i ≡ true
       out_last = out_to_worker four.log i ∙ ap is_some goes_last.to
@@ -486,52 +486,52 @@ module _ {P : Type 0} {told_by : P → Told} {i worker now : ℕ} {old : Books P
       pub alone_last : {X : Type 0} → joins_at four.log i ≡ false → X
       alone_last alone = let joins_last = goes_last.joins in absurd cc
 
-      fit_last : {E : Type 0} (r : Result (Unit {0}) E) → OnOk r (HasWorkedWell i mid four) → OnErr r (IsOwingNow i mid.seats four.seats) →
-          IfSome (slice_get four.seats i) (IsBackFit task four.log i)
-      fit_last (Ok x) well owing = carried SameFlags (IsFitBack task) (IsBackFit task four.log i) (slice_get mid.seats i) (slice_get four.seats i) (well.flags i) fit_first
+      fit_last : {E : Type 0} (r : Result (Unit {0}) E) → OnOk r (HasWorkedWell i mid four) → OnErr r (IsOwingNow i mid.states four.states) →
+          IfSome (slice_get four.states i) (IsBackFit task four.log i)
+      fit_last (Ok x) well owing = carried SameFlags (IsFitBack task) (IsBackFit task four.log i) (slice_get mid.states i) (slice_get four.states i) (well.flags i) fit_first
           (λ was is so fits. record {
             fed = so.starved ∙ fits.fed;
             fit = λ counted. fits.fit (sym so.behind ∙ counted);
             settled = λ known. settled_all four.log goes_last well.answered;
           })
-      fit_last (Err e) well owing = carried Owes (IsFitBack task) (IsBackFit task four.log i) (slice_get mid.seats i) (slice_get four.seats i)
-          (both_are Owes (slice_get mid.seats i) (slice_get four.seats i) owing.one) fit_first
+      fit_last (Err e) well owing = carried Owes (IsFitBack task) (IsBackFit task four.log i) (slice_get mid.states i) (slice_get four.states i)
+          (both_are Owes (slice_get mid.states i) (slice_get four.states i) owing.one) fit_first
           (λ was is owes fits. record {
             fed = owes.fed ∙ fits.fed;
             fit = λ counted. fits.fit (sym owes.counted ∙ counted);
             settled = λ known. let unknown = owes.owing in cc;
           })
 
-      pub back_last : {E : Type 0} (r : Result (Unit {0}) E) → OnOk r (HasWorkedWell i mid four) → OnErr r (IsOwingNow i mid.seats four.seats) →
-          HasTaskBack told_by four.seats four.log i task
+      pub back_last : {E : Type 0} (r : Result (Unit {0}) E) → OnOk r (HasWorkedWell i mid four) → OnErr r (IsOwingNow i mid.states four.states) →
+          HasTaskBack observe four.states four.log i task
       back_last r well owing =
-          both_said (λ seat. IsKnown told_by seat four.log i) (IsBackFit task four.log i) (λ seat. IsBack told_by seat.facts four.log i task) (slice_get four.seats i)
-          (worked.stands.seats.each i) (fit_last r well owing) (λ seat known fits. record {
+          both_said (λ state. IsKnown observe state four.log i) (IsBackFit task four.log i) (λ state. IsBack observe state.facts four.log i task) (slice_get four.states i)
+          (worked.stands.states.each i) (fit_last r well owing) (λ state known fits. record {
             settled = λ owing going. fits.settled owing;
             answered = λ device owing going. let none = joins_portless four.log i goes_last.joins in cc;
-            kept = λ owing going. kept_joining task.role four.log four.log i goes_last.joins goes_last.home.come;
-            task_is = rw fits.fed goes_last.home;
+            kept = λ owing going. kept_joining task.role four.log four.log i goes_last.joins goes_last.unleased.come;
+            task_is = rw fits.fed goes_last.unleased;
             shut = λ closed. let is : is_closed four.log i ≡ true = sym known.facts.closed ∙ closed in let not = goes_last.unclosed in cc;
             fit = fits.fit;
           })
 
       pub returned_last : IsReturned four.log i
       returned_last = record {
-        settled = settled_by four.log i goes_last.deeds.spends;
-        told = λ device. let none = joins_portless four.log i goes_last.joins in cc;
+        settled = settled_by four.log i goes_last.work_entries.spends;
+        observed = λ device. let none = joins_portless four.log i goes_last.joins in cc;
       }
 
       -- HOME
-      module _ {new : Books P} (steps : Steps told_by (Home i) four new) (back : OneSeat (NowHas task) i four.seats new.seats) (rooms : SameRooms four.places new.places)
+      module _ {new : EngineState P} (steps : Steps observe (Home i) four new) (back : OneState (NowHas task) i four.states new.states) (capacities : SameCapacities four.places new.places)
           (run : new.run ≡ four.run) where
-        size : length new.seats ≡ length old.seats
+        size : length new.states ≡ length old.states
         size = steps.size ∙ worked.size ∙ lent.steps.size
 
         run_all : new.run ≡ record old.run { latest = now }
         run_all = run ∙ worked.run ∙ lent.run
 
-        home : is_out new.log i ≡ false
-        home = rw (steps.noted, itself i) refl
+        unleased : is_out new.log i ≡ false
+        unleased = rw (steps.noted, itself i) refl
 
         only : OnlyAdds (IsFor i) old.log new.log
         only =
@@ -553,46 +553,46 @@ module _ {P : Type 0} {told_by : P → Told} {i worker now : ℕ} {old : Books P
             (rw lent.steps.noted at (adds_wider (IsMergeStep i) (ComesMerged i) (comes_step i) mid.log four.log worked.only)) steps.follows refl steps.noted
 
         -- of the others
-        others : OthersStay i old.seats new.seats
-        others = others_both old.seats mid.seats new.seats (others_one (IsLeft task) i old.seats mid.seats lent.seats)
-            (others_both mid.seats four.seats new.seats worked.others (others_one (NowHas task) i four.seats new.seats back))
+        others : OthersStay i old.states new.states
+        others = others_both old.states mid.states new.states (others_one (IsLeft task) i old.states mid.states lent.states)
+            (others_both mid.states four.states new.states worked.others (others_one (NowHas task) i four.states new.states back))
 
-        not_home : (j : ℕ) → is_out new.log j ≡ true → j ≢ i
-        not_home j out same = let at_home = rw (← same) at home in cc
+        not_unleased : (j : ℕ) → is_out new.log j ≡ true → j ≢ i
+        not_unleased j out same = let unleased_there = rw (← same) at unleased in cc
 
         was_out : (j : ℕ) → is_out new.log j ≡ true → is_out old.log j ≡ true
-        was_out j out = sym (others_out i j old.log new.log (not_home j out) only) ∙ out
+        was_out j out = sym (others_out i j old.log new.log (not_unleased j out) only) ∙ out
 
         lent_still : LentWhileOut old → LentWhileOut new
         lent_still was j within out =
-            room_lent new.places j (rw steps.stands.size within)
-            ((rooms j).1 ∙ (worked.rooms j).1 ∙ (lent.rooms j).1 ∙ lent_room old.places j (was j (rw (← size) within) (was_out j out)))
+            capacity_lent new.places j (rw steps.stands.size within)
+            ((capacities j).1 ∙ (worked.capacities j).1 ∙ (lent.capacities j).1 ∙ lent_capacity old.places j (was j (rw (← size) within) (was_out j out)))
 
         -- of its own
-        left_flags : EachSeat SameFlags old.seats mid.seats
+        left_flags : EachState SameFlags old.states mid.states
         left_flags j = elim (cases_eq j i) [
-          | inl same ↦ rw same (beside (IsLeft task) SameFlags (slice_get old.seats i) (slice_get mid.seats i) (λ was is left. left.flags)
-              (both_are (IsLeft task) (slice_get old.seats i) (slice_get mid.seats i) lent.seats.one))
-          | inr other ↦ others_one (IsLeft task) i old.seats mid.seats lent.seats j other
+          | inl same ↦ rw same (beside (IsLeft task) SameFlags (slice_get old.states i) (slice_get mid.states i) (λ was is left. left.flags)
+              (both_are (IsLeft task) (slice_get old.states i) (slice_get mid.states i) lent.states.one))
+          | inr other ↦ others_one (IsLeft task) i old.states mid.states lent.states j other
         ]
 
-        home_flags : EachSeat SameFlags four.seats new.seats
-        home_flags = flags_home i task four.seats new.seats back
+        unleased_flags : EachState SameFlags four.states new.states
+        unleased_flags = flags_returned i task four.states new.states back
 
         fed_still : IsFed old → IsFed new
         fed_still fed off j =
-            let was = fed (sym (ap (λ (r : Run). r.short) run_all) ∙ off) in
+            let was = fed (sym (ap (λ (r : Run). r.out_of_memory) run_all) ∙ off) in
             elim (cases_eq j i) [
-              | inl same ↦ rw same (fed_flags (slice_get four.seats i) (slice_get new.seats i) (home_flags i)
-                  (worked.fed (fed_flags (slice_get old.seats i) (slice_get mid.seats i) (left_flags i) (was i))))
-              | inr other ↦ fed_flags (slice_get old.seats j) (slice_get new.seats j) (others j other) (was j)
+              | inl same ↦ rw same (fed_flags (slice_get four.states i) (slice_get new.states i) (unleased_flags i)
+                  (worked.fed (fed_flags (slice_get old.states i) (slice_get mid.states i) (left_flags i) (was i))))
+              | inr other ↦ fed_flags (slice_get old.states j) (slice_get new.states j) (others j other) (was j)
             ]
 
         pub well_still : {E : Type 0} (r : Result (Unit {0}) E) → OnOk r (HasWorkedWell i mid four) → OnOk r (IsWell old → IsWell new)
         well_still (Ok x) worked_so = λ well. record {
-          seats = λ j. well_flags (slice_get old.seats j) (slice_get new.seats j)
-              (flags_then old.seats mid.seats new.seats left_flags (flags_then mid.seats four.seats new.seats worked_so.flags home_flags) j) (well.seats j);
-          fed = ap (λ (r : Run). r.short) run_all ∙ well.fed;
+          states = λ j. well_flags (slice_get old.states j) (slice_get new.states j)
+              (flags_then old.states mid.states new.states left_flags (flags_then mid.states four.states new.states worked_so.flags unleased_flags) j) (well.states j);
+          fed = ap (λ (r : Run). r.out_of_memory) run_all ∙ well.fed;
         }
         well_still (Err e) worked_so = tt
 
@@ -600,7 +600,7 @@ module _ {P : Type 0} {told_by : P → Told} {i worker now : ℕ} {old : Books P
         answered_still (Ok x) worked_so = rw steps.noted worked_so.answered
         answered_still (Err e) worked_so = tt
 
-        same_task : (o m f n : Option (Seat P)) → IsSomeAnd o (λ was. IsSomeAnd m (λ is. IsLeft task was is)) → IsSomeAnd f (λ was. IsSomeAnd n (λ is. NowHas task was is)) →
+        same_task : (o m f n : Option (InstanceState P)) → IsSomeAnd o (λ was. IsSomeAnd m (λ is. IsLeft task was is)) → IsSomeAnd f (λ was. IsSomeAnd n (λ is. NowHas task was is)) →
             Beside HasSameTask o n
         same_task None m f n left has = absurd left
         same_task (Some was) None f n left has = absurd left
@@ -608,24 +608,24 @@ module _ {P : Type 0} {told_by : P → Told} {i worker now : ℕ} {old : Books P
         same_task (Some was) (Some gone) (Some out) None left has = tt
         same_task (Some was) (Some gone) (Some out) (Some is) left has = rw has (sym left.had)
 
-        tasks : EachSeat HasSameTask old.seats new.seats
+        tasks : EachState HasSameTask old.states new.states
         tasks j = elim (cases_eq j i) [
-          | inl same ↦ rw same (same_task (slice_get old.seats i) (slice_get mid.seats i) (slice_get four.seats i) (slice_get new.seats i) lent.seats.one back.one)
-          | inr other ↦ rw (back.others j other) (rw (lent.seats.others j other) at (worked.tasks j))
+          | inl same ↦ rw same (same_task (slice_get old.states i) (slice_get mid.states i) (slice_get four.states i) (slice_get new.states i) lent.states.one back.one)
+          | inr other ↦ rw (back.others j other) (rw (lent.states.others j other) at (worked.tasks j))
         ]
 
-        pub merged : IsServed old → LentWhileOut old → AwayIsWell old → HasMerged told_by i worker now old new
+        pub merged : IsServed old → LentWhileOut old → AwayIsWell old → HasMerged observe i worker now old new
         merged served was away = record {
           stands = steps.stands;
           served = served_still {new = new} served (ap (λ (r : Run). r.plan) run_all) size;
           size = size;
           run = run_all;
-          home = home;
+          unleased = unleased;
           noted = noted;
           only = only;
           made = made;
           lent = lent_still was;
-          away = λ j out. well_flags (slice_get old.seats j) (slice_get new.seats j) (others j (not_home j out)) (away j (was_out j out));
+          away = λ j out. well_flags (slice_get old.states j) (slice_get new.states j) (others j (not_unleased j out)) (away j (was_out j out));
           fed = fed_still;
           tasks = tasks;
         }

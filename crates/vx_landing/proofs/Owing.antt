@@ -5,7 +5,7 @@ use Rattle.std.specs.List.{list_any}
 use Rattle.std.proofs.lemmas.Bool.{cases_Bool, cases_lt, eqb-true, lt-ltb, ne_eqb, or_from, or_parts}
 use Rattle.std.proofs.lemmas.Bool.Decides.{nat_tests}
 use Rattle.std.proofs.lemmas.List.{append-nil, length-append}
-use Rattle.vx_value.specs.Texts.{Word, is_empty}
+use Rattle.vx_value.specs.Texts.{ByteString, is_empty}
 use Rattle.vx_value.specs.declared.event.Event.{Event}
 use Rattle.vx_ledger.specs.declared.short.Short.{Short}
 use Rattle.vx_ledger.specs.declared.short.Short.TheVariants.{Numbers, WantOfMemory}
@@ -42,7 +42,7 @@ use Rattle.vx_record.proofs.Promises.{discarded_held}
 use Rattle.vx_record.proofs.Shifting.{stands_at}
 use Rattle.vx_record.proofs.Untried.{owed_spent}
 use Rattle.vx_counts.proofs.Once.{itself}
-use Rattle.vx_moves.specs.Bearing.{IsBirthShort}
+use Rattle.vx_moves.specs.Creating.{IsBirthShort}
 use Rattle.vx_moves.specs.Returns.{AreSettled}
 use Rattle.vx_moves.specs.Spends.{IsSpendOf}
 use Rattle.vx_landing.specs.Failures.{LacksBirth}
@@ -54,26 +54,26 @@ uncaused [] going = refl
 uncaused (Abandon cause ∷ h) going = cc
 uncaused (e ∷ h) going = uncaused h going
 
--- who is out behind a way home was out before it
+-- who is out behind a return was out before it
 pub was_out : (b c : Bool) → (if b then false else c) ≡ true → c ≡ true
 was_out true c out = cc
 was_out false c out = out
 
 -- THE PARTS
 -- what an instance may owe of what it did
-pub record OwesDeeds (h : Record) (i : ℕ) : Type 0 where
+pub record OwesWorkEntries (h : Record) (i : ℕ) : Type 0 where
   pub birth : owes_birth h i ≡ false
   pub spends : owes_spends_in h h i ≡ false
 
-pub deeds_none : (h : Record) (i : ℕ) → owes_entries h i ≡ false → OwesDeeds h i
-deeds_none h i none =
+pub work_entries_none : (h : Record) (i : ℕ) → owes_entries h i ≡ false → OwesWorkEntries h i
+work_entries_none h i none =
     let two = or_parts (owes_birth h i) (owes_spends_in h h i) (or_parts (owes_birth h i || owes_spends_in h h i) (owes_discards h i) none).0 in
     record { birth = two.0; spends = two.1 }
 
 -- with what it discarded, and what it took
-pub entries_none : (h : Record) (i : ℕ) → OwesDeeds h i → owes_discards h i ≡ false → owes_entries h i ≡ false
-entries_none h i deeds discards =
-    or_from (owes_birth h i || owes_spends_in h h i) (owes_discards h i) (or_from (owes_birth h i) (owes_spends_in h h i) deeds.birth deeds.spends) discards
+pub entries_none : (h : Record) (i : ℕ) → OwesWorkEntries h i → owes_discards h i ≡ false → owes_entries h i ≡ false
+entries_none h i work_entries discards =
+    or_from (owes_birth h i || owes_spends_in h h i) (owes_discards h i) (or_from (owes_birth h i) (owes_spends_in h h i) work_entries.birth work_entries.spends) discards
 
 pub owes_none : (h : Record) (i : ℕ) → owes_entries h i ≡ false → owes_answer h i ≡ false → owes h i ≡ false
 owes_none h i entries answer = or_from (owes_entries h i) (owes_answer h i) entries answer
@@ -87,14 +87,14 @@ owing born fruits settled discarded spent answer =
     nat_lt born fruits || list_any (λ copies. list_any (λ c. count c spent == 0) copies) settled || list_any (λ c. count c spent == 0) discarded || answer
 
 born_enough : (h : Record) (i : ℕ) → owes h i ≡ false → owes_birth h i ≡ false
-born_enough h i none = (deeds_none h i (owes_parts h i none).0).birth
+born_enough h i none = (work_entries_none h i (owes_parts h i none).0).birth
 
 -- nothing is, where as much is spent and enough was born
 owing_none : (h : Record) (i born fruits : ℕ) (spent : List ℕ) (answer : Bool) → spent ≡ all_of spends h → nat_lt born fruits ≡ false →
     answer ≡ owes_answer h i → owes h i ≡ false → owing born fruits (decided h i) (last_discarded h i) spent answer ≡ false
 owing_none h i born fruits spent answer same enough alike none = rw (same, enough, alike) (rw (born_enough h i none) at none)
 
--- so it is behind an entry that neither bears nor spends
+-- so it is behind an entry that neither creates a batch nor spends
 owing_next : (h : Record) (i fruits : ℕ) (answer : Bool) → nat_lt (length (births h i)) fruits ≡ false → answer ≡ owes_answer h i → owes h i ≡ false →
     owing (length (births h i ++ [])) fruits (decided h i) (last_discarded h i) (all_of spends h ++ []) answer ≡ false
 owing_next h i fruits answer enough = owing_none h i (length (births h i ++ [])) fruits (all_of spends h ++ []) answer (append-nil (all_of spends h)) (rw append-nil enough)
@@ -115,15 +115,15 @@ each_less h e (p ∷ ps) none =
     let two = or_parts (unspent_of h p) (list_any (unspent_of h) ps) none in
     or_from (unspent_of (e ∷ h) p) (list_any (unspent_of (e ∷ h)) ps) (unspent_less h e p two.0) (each_less h e ps two.1)
 
--- so an entry that neither bears, reads nor attempts leaves what is owed of what was done
-pub deeds_on : (h : Record) (e : Entry) (i : ℕ) → births_in i e ≡ [] → fruitful (e ∷ h) i ≡ fruitful h i → decided (e ∷ h) i ≡ decided h i → OwesDeeds h i → OwesDeeds (e ∷ h) i
-deeds_on h e i unborn read tried was = record { birth = rw (unborn, append-nil, read) was.birth; spends = rw tried (each_less h e (decided h i) was.spends) }
+-- so an entry that neither creates a batch, reads nor attempts leaves what is owed of what was done
+pub work_entries_on : (h : Record) (e : Entry) (i : ℕ) → births_in i e ≡ [] → fruitful (e ∷ h) i ≡ fruitful h i → decided (e ∷ h) i ≡ decided h i → OwesWorkEntries h i → OwesWorkEntries (e ∷ h) i
+work_entries_on h e i unborn read tried was = record { birth = rw (unborn, append-nil, read) was.birth; spends = rw tried (each_less h e (decided h i) was.spends) }
 
 -- and a confirm does what was discarded too
 pub entries_confirmed : (h : Record) (i : ℕ) (positions : List Position) (made : Bool) → owes_entries h i ≡ false → owes_entries (Confirm i positions made ∷ h) i ≡ false
 entries_confirmed h i positions made none =
     let e = Confirm i positions made in
-    entries_none (e ∷ h) i (deeds_on h e i refl refl refl (deeds_none h i none))
+    entries_none (e ∷ h) i (work_entries_on h e i refl refl refl (work_entries_none h i none))
     (unspent_less h e (last_discarded h i) (or_parts (owes_birth h i || owes_spends_in h h i) (owes_discards h i) none).1)
 
 none_more : (n : ℕ) → n + 0 ≡ n
@@ -140,39 +140,39 @@ unborn (Read k stream took ∷ h) i j y yields none = elim (cases_Bool (k == j))
 unborn (e ∷ h) i j y yields none = cc
 
 -- what others attempted doesn't count
-untold : {X : Type 0} (own done : Bool) (more before : X) → own ≡ false → (if own && done then more else before) ≡ before
-untold true done more before far = cc
-untold false done more before far = refl
+unobserved : {X : Type 0} (own done : Bool) (more before : X) → own ≡ false → (if own && done then more else before) ≡ before
+unobserved true done more before far = cc
+unobserved false done more before far = refl
 
 -- what is out and took no turn nor made an attempt since its lease owes nothing of what it did
-deeds_out : (h : Record) (i : ℕ) → IsLegal h → is_out h i ≡ true → list_any (is_turn_of i) (since_lease h i) ≡ false →
-    list_any (is_attempt_of i) (since_lease h i) ≡ false → OwesDeeds h i
-deeds_out [] i legal out unturned untried = cc
-deeds_out (Install version plan once instances now ∷ h) i legal out unturned untried =
+work_entries_out : (h : Record) (i : ℕ) → IsLegal h → is_out h i ≡ true → list_any (is_turn_of i) (since_lease h i) ≡ false →
+    list_any (is_attempt_of i) (since_lease h i) ≡ false → OwesWorkEntries h i
+work_entries_out [] i legal out unturned untried = cc
+work_entries_out (Install version plan once instances now ∷ h) i legal out unturned untried =
     let none = rw legal.0.row.first at out in cc
-deeds_out (Lease j worker now polls ∷ h) i legal out unturned untried =
-    deeds_on h (Lease j worker now polls) i refl refl refl (elim (cases_Bool (j == i)) [
-      | inl is ↦ deeds_none h i (owes_parts h i (rw (eqb-true j i is) at legal.0.row.settled)).0
-      | inr far ↦ deeds_out h i legal.1 (rw far at out) (rw far at unturned) (rw far at untried)
+work_entries_out (Lease j worker now polls ∷ h) i legal out unturned untried =
+    work_entries_on h (Lease j worker now polls) i refl refl refl (elim (cases_Bool (j == i)) [
+      | inl is ↦ work_entries_none h i (owes_parts h i (rw (eqb-true j i is) at legal.0.row.settled)).0
+      | inr far ↦ work_entries_out h i legal.1 (rw far at out) (rw far at unturned) (rw far at untried)
     ])
-deeds_out (Home j ∷ h) i legal out unturned untried =
-    deeds_on h (Home j) i refl refl refl (deeds_out h i legal.1 (was_out (j == i) (is_out h i) out) unturned untried)
-deeds_out (Read j stream took ∷ h) i legal out unturned untried =
+work_entries_out (Home j ∷ h) i legal out unturned untried =
+    work_entries_on h (Home j) i refl refl refl (work_entries_out h i legal.1 (was_out (j == i) (is_out h i) out) unturned untried)
+work_entries_out (Read j stream took ∷ h) i legal out unturned untried =
     let turned = or_parts (j == i) (list_any (is_turn_of i) (since_lease h i)) unturned in
-    deeds_on h (Read j stream took) i refl (rw turned.0 (none_more (fruitful h i))) refl (deeds_out h i legal.1 out turned.1 untried)
-deeds_out (Born j b place copies events waits stream end ∷ h) i legal out unturned untried =
+    work_entries_on h (Read j stream took) i refl (rw turned.0 (none_more (fruitful h i))) refl (work_entries_out h i legal.1 out turned.1 untried)
+work_entries_out (Born j b place copies events waits stream end ∷ h) i legal out unturned untried =
     let far = unborn h i j (record { events = events; stream = stream; end = end }) legal.0.row.yields unturned in
-    deeds_on h (Born j b place copies events waits stream end) i (rw far refl) refl refl (deeds_out h i legal.1 out unturned untried)
-deeds_out (Attempt j copies bytes reply ∷ h) i legal out unturned untried =
+    work_entries_on h (Born j b place copies events waits stream end) i (rw far refl) refl refl (work_entries_out h i legal.1 out unturned untried)
+work_entries_out (Attempt j copies bytes reply ∷ h) i legal out unturned untried =
     let tried = or_parts (j == i) (list_any (is_attempt_of i) (since_lease h i)) untried in
-    deeds_on h (Attempt j copies bytes reply) i refl refl (untold (j == i) _ _ _ tried.0) (deeds_out h i legal.1 out unturned tried.1)
-deeds_out (e ∷ h) i legal out unturned untried =
-    deeds_on h e i refl refl refl (deeds_out h i legal.1 out (or_parts (is_turn_of i e) (list_any (is_turn_of i) (since_lease h i)) unturned).1 untried)
+    work_entries_on h (Attempt j copies bytes reply) i refl refl (unobserved (j == i) _ _ _ tried.0) (work_entries_out h i legal.1 out unturned tried.1)
+work_entries_out (e ∷ h) i legal out unturned untried =
+    work_entries_on h e i refl refl refl (work_entries_out h i legal.1 out (or_parts (is_turn_of i e) (list_any (is_turn_of i) (since_lease h i)) unturned).1 untried)
 
 -- nor anything but an answer, where all that it discarded is spent
 pub owes_out : (h : Record) (i : ℕ) → IsLegal h → is_out h i ≡ true → list_any (is_turn_of i) (since_lease h i) ≡ false →
     list_any (is_attempt_of i) (since_lease h i) ≡ false → owes_discards h i ≡ false → owes_entries h i ≡ false
-owes_out h i legal out unturned untried discards = entries_none h i (deeds_out h i legal out unturned untried) discards
+owes_out h i legal out unturned untried discards = entries_none h i (work_entries_out h i legal out unturned untried) discards
 
 -- SPENDS
 -- what is so of each spend of an instance and of each notice
@@ -212,16 +212,16 @@ enough : (bs : List Birth) (birth : Birth) (fruits : ℕ) (some : Bool) → nat_
     nat_lt (length (bs ++ birth ∷ [])) (fruits + (if some then 1 else 0)) ≡ false
 enough bs birth fruits some few = let size = length-append bs (birth ∷ []) in grind (arith, nat_tests, size, few)
 
-pub owes_borne : (h : Record) (i stream : ℕ) (took : Taken) (b place : ℕ) (copies : List ℕ) (events : List Event) (waits : Bool) (of end : ℕ) →
+pub owes_created : (h : Record) (i stream : ℕ) (took : Taken) (b place : ℕ) (copies : List ℕ) (events : List Event) (waits : Bool) (of end : ℕ) →
     owes h i ≡ false → owes (Born i b place copies events waits of end ∷ Read i stream took ∷ h) i ≡ false
-owes_borne h i stream took b place copies events waits of end none =
+owes_created h i stream took b place copies events waits of end none =
     owing_none h i (length ((births h i ++ []) ++ births_in i (Born i b place copies events waits of end))) (fruitful h i + (if (i == i) && not (is_empty (events_of h i stream took)) then 1 else 0))
     ((all_of spends h ++ []) ++ []) (owes_answer h i) (rw (append-nil, append-nil) refl)
     (rw (itself i, append-nil) (enough (births h i) (record { batch = b; waits = waits; stream = of; end = end }) (fruitful h i) (not (is_empty (events_of h i stream took))) (born_enough h i none)))
     refl none
 
 -- ATTEMPTS
--- entries that neither bear, read, discard nor take leave what is owed beside spends
+-- entries that neither create a batch, read, discard nor take leave what is owed beside spends
 record OwesElse (h : Record) (i : ℕ) : Type 0 where
   birth : owes_birth h i ≡ false
   discards : owes_discards h i ≡ false
@@ -274,7 +274,7 @@ bare_spent h i c legal none until =
     elim (cases_lt 0 (times_spent h c)) [ inl some ↦ some | inr few ↦ absurd (omega (arith, held (omega (arith, few)))) ]
 
 -- behind an attempt and spends after which nothing is held nothing is owed
-pub owes_attempted : (h new : Record) (i : ℕ) (copies : List ℕ) (bytes : Word) (reply : Reply) (outcome : Outcome) → owes h i ≡ false →
+pub owes_attempted : (h new : Record) (i : ℕ) (copies : List ℕ) (bytes : ByteString) (reply : Reply) (outcome : Outcome) → owes h i ≡ false →
     OnlyAdds (IsSpendOf i outcome) (Attempt i copies bytes reply ∷ h) new → IsLegal new → at new (Held i) ≡ [] → owes new i ≡ false
 owes_attempted h new i copies bytes reply outcome none adds legal bare =
     let rest = spends_keep (λ k. OwesElse k i) (λ k c. else_on k (Spent i c outcome) i refl refl refl refl) (λ k b status. else_on k (Notice b status) i refl refl refl refl) adds
@@ -283,7 +283,7 @@ owes_attempted h new i copies bytes reply outcome none adds legal bare =
     owes_none new i (entries_none new i (record { birth = rest.birth; spends = settled }) rest.discards) rest.answer
 
 -- behind one that decides nothing, nothing is owed more
-pub owes_retried : (h : Record) (i : ℕ) (copies : List ℕ) (bytes : Word) (reply : Reply) → owes h i ≡ false →
+pub owes_retried : (h : Record) (i : ℕ) (copies : List ℕ) (bytes : ByteString) (reply : Reply) → owes h i ≡ false →
     is_decided reply (failures_with h i (first_copy copies) + 1) (attempts_allowed h i) ≡ false → owes (Attempt i copies bytes reply ∷ h) i ≡ false
 owes_retried h i copies bytes reply none waits =
     rw (itself i, waits) (owing_next h i (fruitful h i) (owes_answer h i) (born_enough h i none) refl none)
@@ -297,9 +297,9 @@ pub owes_answered : (h new : Record) (i : ℕ) (outputs : List Output) (discarde
     OnlyAdds (IsSpendOf i outcome) (Answer i outputs discarded kept ∷ h) new → IsLegal new → at new (Held i) ≡ [] → owes new i ≡ false
 owes_answered h new i outputs discarded kept outcome none adds legal bare =
     let e = Answer i outputs discarded kept in
-    let rest = spends_keep (λ k. OwesDeeds k i × (owes_answer k i ≡ false))
-    (λ k c was. (deeds_on k (Spent i c outcome) i refl refl refl was.0, was.1)) (λ k b status was. (deeds_on k (Notice b status) i refl refl refl was.0, was.1)) adds
-    (deeds_on h e i refl refl refl (deeds_none h i none), answered_took (transform_at h i) (took_since h i) (i == i) (itself i)) in
+    let rest = spends_keep (λ k. OwesWorkEntries k i × (owes_answer k i ≡ false))
+    (λ k c was. (work_entries_on k (Spent i c outcome) i refl refl refl was.0, was.1)) (λ k b status was. (work_entries_on k (Notice b status) i refl refl refl was.0, was.1)) adds
+    (work_entries_on h e i refl refl refl (work_entries_none h i none), answered_took (transform_at h i) (took_since h i) (i == i) (itself i)) in
     let gone = none_unspent new (last_discarded new i) (λ c some. bare_spent new i c legal bare (discarded_held new i c legal some)) in
     owes_none new i (entries_none new i rest.0 gone) rest.1
 
@@ -332,7 +332,7 @@ few (Born j b place copies events waits stream end ∷ h) i legal =
 few (e ∷ h) i legal = record { most = rw append-nil (few h i legal.1).most; fewer = λ y is some. cc }
 
 wanted_more : (next n w wanted : ℕ) → n ≡ next → w ≡ min wanted (2 ^ 64 - 1) → 2 ^ 63 < next + wanted → 2 ^ 63 < n + w
-wanted_more next n w wanted same told more = omega (arith, same, told, more)
+wanted_more next n w wanted same observed more = omega (arith, same, observed, more)
 
 some_wanted : (next n : ℕ) → next ≤ 2 ^ 63 → 2 ^ 63 < next + n → 0 < n
 some_wanted next n most more = omega (arith, most, more)
@@ -354,7 +354,7 @@ lacks_birth h i stream took y (Numbers next wanted) legal yields short =
     )
 lacks_birth h i stream took y WantOfMemory legal yields short = tt
 
--- and so it does behind its way home
-pub lacks_home : (h : Record) (i : ℕ) (short : Short) → LacksBirth h short → LacksBirth (Home i ∷ h) short
-lacks_home h i (Numbers next wanted) lacks = (lacks.0 ∙ sym (none_more (next_copy h)), lacks.1, (lacks.2.0, rw append-nil lacks.2.1, lacks.2.2))
-lacks_home h i WantOfMemory lacks = tt
+-- and so it does behind its return
+pub lacks_returned : (h : Record) (i : ℕ) (short : Short) → LacksBirth h short → LacksBirth (Home i ∷ h) short
+lacks_returned h i (Numbers next wanted) lacks = (lacks.0 ∙ sym (none_more (next_copy h)), lacks.1, (lacks.2.0, rw append-nil lacks.2.1, lacks.2.2))
+lacks_returned h i WantOfMemory lacks = tt

@@ -1,7 +1,7 @@
--- An instance that merges is leased, does what there is to do, and is home again.
+-- An instance that merges is leased, does what there is to do, and is unleased again.
 use Rattle.std.specs.Prelude.{◌≡◌, ◌≢◌, ◌<◌, ◌+◌, ◌∷◌, ℕ, true, false, [], length, IfSome, slice_get}
 use Rattle.std.specs.List.{list_all}
-use Rattle.vx_ends.specs.Told.{Told}
+use Rattle.vx_ends.specs.Observation.{Observation}
 use Rattle.vx_record.specs.declared.entry.Entry.{Entry}
 use Rattle.vx_record.specs.declared.entry.Entry.TheVariants as entry
 use Rattle.vx_record.specs.Abandoning.{abandoned}
@@ -12,11 +12,11 @@ use Rattle.vx_record.specs.Places.Place.{Held}
 use Rattle.vx_record.specs.Records.{Record}
 use Rattle.vx_record.specs.Shifts.{at}
 use Rattle.vx_record.specs.Turns.{is_out, is_take_of, lease_now, since_lease}
-use Rattle.vx_places.specs.Rooms.{SameRooms}
-use Rattle.vx_seats.specs.declared.seat.Seat.{Seat}
-use Rattle.vx_seats.specs.Staying.{EachSeat, SameFlags}
+use Rattle.vx_places.specs.Capacities.{SameCapacities}
+use Rattle.vx_instances.specs.declared.state.InstanceState.{InstanceState}
+use Rattle.vx_instances.specs.Staying.{EachState, SameFlags}
 use Rattle.vx_tasks.specs.Joining.{joins_at}
-use Rattle.vx_moves.specs.declared.books.Books.{Books}
+use Rattle.vx_moves.specs.declared.engine.EngineState.{EngineState}
 use Rattle.vx_moves.specs.Leaving.{Leaves}
 use Rattle.vx_moves.specs.Stands.{Stands}
 use Rattle.vx_ready.specs.Asking.{IsServed}
@@ -30,7 +30,7 @@ IsMergeStep i h (entry.Tick j now) = j ≡ i
 IsMergeStep i h (entry.Answer j outputs discarded kept) = j ≡ i
 IsMergeStep i h other = ⊥
 
--- and then it comes home
+-- and then it comes back
 abbrev pub ComesMerged : ℕ → Record → Entry → Type 0
 ComesMerged i h (entry.Home j) = j ≡ i
 ComesMerged i h e = IsMergeStep i h e
@@ -57,59 +57,59 @@ pub record HasInputs (h : Record) (i : ℕ) : Type 0 where
   pub holds : at h (Held i) ≢ []
 
 -- it took one more
-pub record HasTakenOne {P : Type 0} (told_by : P → Told) (i now : ℕ) (old new : Books P) : Type 0 where
-  pub stands : Stands told_by new
+pub record HasTakenOne {P : Type 0} (observe : P → Observation) (i now : ℕ) (old new : EngineState P) : Type 0 where
+  pub stands : Stands observe new
   pub taking : IsTaking new.log i now
   pub one : length (since_lease new.log i) ≡ length (since_lease old.log i) + 1
   pub inputs : HasInputs new.log i
   pub only : OnlyAdds (IsMergeStep i) old.log new.log
   pub leaves : Leaves old new
-  pub size : length new.seats ≡ length old.seats
+  pub size : length new.states ≡ length old.states
 
 -- it took so many since its lease
-pub record HasTakenSome {P : Type 0} (told_by : P → Told) (i now taken : ℕ) (old new : Books P) : Type 0 where
-  pub stands : Stands told_by new
+pub record HasTakenSome {P : Type 0} (observe : P → Observation) (i now taken : ℕ) (old new : EngineState P) : Type 0 where
+  pub stands : Stands observe new
   pub taking : IsTaking new.log i now
   pub many : length (since_lease new.log i) ≡ taken
   pub some : 0 < taken → HasInputs new.log i
   pub none : taken ≡ 0 → new ≡ old
   pub only : OnlyAdds (IsMergeStep i) old.log new.log
   pub leaves : Leaves old new
-  pub size : length new.seats ≡ length old.seats
+  pub size : length new.states ≡ length old.states
 
 -- WHAT IT LEAVES
--- a seat has the task that it had, or still none
-abbrev pub HasSameTask : {P : Type 0} → Seat P → Seat P → Type 0
+-- a state has the task that it had, or still none
+abbrev pub HasSameTask : {P : Type 0} → InstanceState P → InstanceState P → Type 0
 HasSameTask was is = is.task ≡ was.task
 
 -- what an instance did that is out: the tasks are where they were, and of the others is known what was known
-pub record HasWorked {P : Type 0} (told_by : P → Told) (i : ℕ) (old new : Books P) : Type 0 where
-  pub stands : Stands told_by new
+pub record HasWorked {P : Type 0} (observe : P → Observation) (i : ℕ) (old new : EngineState P) : Type 0 where
+  pub stands : Stands observe new
   pub only : OnlyAdds (IsMergeStep i) old.log new.log
-  pub size : length new.seats ≡ length old.seats
-  pub rooms : SameRooms old.places new.places
+  pub size : length new.states ≡ length old.states
+  pub capacities : SameCapacities old.places new.places
   pub run : new.run ≡ old.run
-  pub tasks : EachSeat HasSameTask old.seats new.seats
-  pub others : OthersStay i old.seats new.seats
-  pub fed : IfSome (slice_get old.seats i) IsFedAt → IfSome (slice_get new.seats i) IsFedAt
+  pub tasks : EachState HasSameTask old.states new.states
+  pub others : OthersStay i old.states new.states
+  pub fed : IfSome (slice_get old.states i) IsFedAt → IfSome (slice_get new.states i) IsFedAt
 
 -- it answered all that it was given, and of each instance is known what was known
-pub record HasWorkedWell {P : Type 0} (i : ℕ) (old new : Books P) : Type 0 where
+pub record HasWorkedWell {P : Type 0} (i : ℕ) (old new : EngineState P) : Type 0 where
   pub answered : unanswered new.log i ≡ []
-  pub flags : EachSeat SameFlags old.seats new.seats
+  pub flags : EachState SameFlags old.states new.states
 
--- an instance was leased to a worker at a moment, did what there was to do, and is home with its task; what is out, what is lent and
--- what isn't known of the seats is what it was but for it
-pub record HasMerged {P : Type 0} (told_by : P → Told) (i worker now : ℕ) (old new : Books P) : Type 0 where
-  pub stands : Stands told_by new
+-- an instance was leased to a worker at a moment, did what there was to do, and is unleased with its task; what is out, what is lent
+-- and what isn't known of the states is what it was but for it
+pub record HasMerged {P : Type 0} (observe : P → Observation) (i worker now : ℕ) (old new : EngineState P) : Type 0 where
+  pub stands : Stands observe new
   pub served : IsServed new
-  pub size : length new.seats ≡ length old.seats
+  pub size : length new.states ≡ length old.states
   pub run : new.run ≡ record old.run { latest = now }
-  pub home : is_out new.log i ≡ false
+  pub unleased : is_out new.log i ≡ false
   pub noted : OnlyAdds (ComesMerged i) (entry.Lease i worker now 0 ∷ old.log) new.log
   pub only : OnlyAdds (IsFor i) old.log new.log
   pub made : OnlyAdds (IsBy worker) old.log new.log
   pub lent : LentWhileOut new
   pub away : AwayIsWell new
   pub fed : IsFed old → IsFed new
-  pub tasks : EachSeat HasSameTask old.seats new.seats
+  pub tasks : EachState HasSameTask old.states new.states

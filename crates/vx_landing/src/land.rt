@@ -1,4 +1,4 @@
-// How a task comes home.
+// How a task comes back.
 ghost use Rattle.std.specs.Prelude.{◌≡◌, ◌<◌, ◌∷◌, ◌++◌, ◌||◌, is_some, is_err, true, false, length, None, Ok, IfErr, OnOk};
 ghost use Rattle.vx_record.specs.Abandoning.{abandoned};
 ghost use Rattle.vx_record.specs.Additions.{OnlyAdds};
@@ -6,51 +6,51 @@ ghost use Rattle.vx_record.specs.Makers.{IsFor};
 ghost use Rattle.vx_tasks.specs.declared.landing.Done.{Done};
 ghost use Rattle.vx_tasks.specs.Out.{HasDone, confirm_entries, lacks_cut, turn_entry};
 ghost use Rattle.vx_moves.specs.Leaving.{Leaves};
-ghost use Rattle.vx_moves.specs.Rooms.{IsHandOf};
+ghost use Rattle.vx_moves.specs.Capacities.{IsHeldLimitOf};
 ghost use Rattle.vx_moves.specs.Stands.{Stands};
 ghost use Rattle.vx_ready.specs.Asking.{IsServed};
 ghost use Rattle.vx_landing.specs.Failures.{LacksBirth};
-ghost use Rattle.vx_landing.specs.Landings.{ComesBehind, HasComeHome, HasTask, IsNotedSo, done_entries, IsConfirmable, IsBackWith, HasLanded, IsWellLanded, is_reading, wants_memory};
+ghost use Rattle.vx_landing.specs.Landings.{ComesBehind, HasComeBack, HasTask, IsNotedSo, done_entries, IsConfirmable, IsBackWith, HasLanded, IsWellLanded, is_reading, wants_memory};
 ghost use Rattle.vx_landing.specs.Standing.{IsWell, AwayIsWell, LentWhileOut};
 
-use crate::ceasing::come_home;
+use crate::ceasing::complete_return;
 use crate::landing::{
-    bear_cut, into_cut, land_attempt, land_judged, mark_short, mark_starved, note_closed,
-    note_confirm, note_failed, note_idle, note_read,
+    create_cut_batch, into_cut, land_attempt, land_judged, mark_out_of_memory, mark_starved,
+    note_closed, note_confirm, note_failed, note_idle, note_read,
 };
 use std::alloc::Global;
 use vx_ends::Port;
 use vx_ledger::Short;
-use vx_moves::Books;
+use vx_moves::EngineState;
 use vx_sourcecore::Turned;
 use vx_tasks::{Confirmed, Done, Landing, Task};
 
-/// Brings a task home: takes back what its instance holds, notes its confirm and what was done, and that it is home. Where the run is
+/// Brings a task back: takes back what its instance holds, notes its confirm and what was done, and that it is unleased. Where the run is
 /// given up, all that stands at the instance is spent as abandoned, and its port, if it has one, closed for good.
 ///
 /// It is short of numbers or memory where a birth found none, or the work or its answer found no memory: each entry that was made
 /// stands then.
-pub fn bring_home<P: Port>(
-    books: &mut Books<P>,
+pub fn accept_landing<P: Port>(
+    engine: &mut EngineState<P>,
     alloc: Global,
     landing: Landing<P>,
 ) -> Result<(), Short>
-    requires stands { Stands P.told books.old }
-    requires served { IsServed books.old }
-    requires within { landing.instance < length books.old.seats }
-    requires lent { LentWhileOut books.old }
-    requires away { AwayIsWell books.old }
-    requires done { HasDone P.told books.old.log landing }
-    requires room { IsHandOf books.old.log landing.instance landing.held.room }
-    ensures home { HasComeHome P.told landing.instance books.old books.new }
+    requires stands { Stands P.observed engine.old }
+    requires served { IsServed engine.old }
+    requires within { landing.instance < length engine.old.states }
+    requires lent { LentWhileOut engine.old }
+    requires away { AwayIsWell engine.old }
+    requires done { HasDone P.observed engine.old.log landing }
+    requires room { IsHeldLimitOf engine.old.log landing.instance landing.held.room }
+    ensures unleased { HasComeBack P.observed landing.instance engine.old engine.new }
     ensures noted { IsNotedSo
-        (is_err result || abandoned books.old.log) landing books.old.log books.new.log }
-    ensures marked { books.new.run.short ≡ (wants_memory landing.done || books.old.run.short) }
-    ensures well { OnOk result (IsWell books.old → IsWell books.new) }
+        (is_err result || abandoned engine.old.log) landing engine.old.log engine.new.log }
+    ensures marked { engine.new.run.out_of_memory ≡ (wants_memory landing.done || engine.old.run.out_of_memory) }
+    ensures well { OnOk result (IsWell engine.old → IsWell engine.new) }
     ensures reason { IfErr result
-        (λ short. abandoned books.new.log ≡ false → LacksBirth books.new.log short) }
-    ensures task { is_some books.old.run.abandoned ≡ false →
-        HasTask books.new.seats landing.instance landing.task }
+        (λ short. abandoned engine.new.log ≡ false → LacksBirth engine.new.log short) }
+    ensures task { is_some engine.old.run.abandoned ≡ false →
+        HasTask engine.new.states landing.instance landing.task }
 {
     let Landing {
         instance,
@@ -60,66 +60,66 @@ pub fn bring_home<P: Port>(
         confirmed,
         done,
     } = landing;
-    books.give_back(instance, held);
-    note_confirmed(books, instance, &confirmed);
-    let landed = note_done(books, alloc, instance, &task, done);
-    come_home(books, instance, task);
+    engine.give_back(instance, held);
+    note_confirmed(engine, instance, &confirmed);
+    let landed = note_done(engine, alloc, instance, &task, done);
+    complete_return(engine, instance, task);
     landed
 }
 
 // Notes the confirm that was made or failed, if there was one.
-fn note_confirmed<P: Port>(books: &mut Books<P>, i: u32, confirmed: &Option<Confirmed>)
-    requires stands { Stands P.told books.old }
-    requires within { i < length books.old.seats }
-    requires may { IsConfirmable books.old.log i confirmed.now }
-    ensures stands { Stands P.told books.new }
-    ensures log { books.new.log ≡ confirm_entries i confirmed.now ++ books.old.log }
-    ensures only { OnlyAdds (IsFor i) books.old.log books.new.log }
-    ensures leaves { Leaves books.old books.new }
-    ensures size { length books.new.seats ≡ length books.old.seats }
+fn note_confirmed<P: Port>(engine: &mut EngineState<P>, i: u32, confirmed: &Option<Confirmed>)
+    requires stands { Stands P.observed engine.old }
+    requires within { i < length engine.old.states }
+    requires may { IsConfirmable engine.old.log i confirmed.now }
+    ensures stands { Stands P.observed engine.new }
+    ensures log { engine.new.log ≡ confirm_entries i confirmed.now ++ engine.old.log }
+    ensures only { OnlyAdds (IsFor i) engine.old.log engine.new.log }
+    ensures leaves { Leaves engine.old engine.new }
+    ensures size { length engine.new.states ≡ length engine.old.states }
 {
     if let Some(confirmed) = confirmed {
-        note_confirm(books, i, confirmed);
+        note_confirm(engine, i, confirmed);
     }
 }
 
 // Notes what was done.
 fn note_done<P: Port>(
-    books: &mut Books<P>,
+    engine: &mut EngineState<P>,
     alloc: Global,
     i: u32,
     task: &Task<P>,
     done: Done,
 ) -> Result<(), Short>
-    requires stands { Stands P.told books.old }
-    requires within { i < length books.old.seats }
-    requires back { IsBackWith P.told books.old i task.now done }
-    ensures landed { HasLanded P.told i task.now books.old books.new }
+    requires stands { Stands P.observed engine.old }
+    requires within { i < length engine.old.states }
+    requires back { IsBackWith P.observed engine.old i task.now done }
+    ensures landed { HasLanded P.observed i task.now engine.old engine.new }
     ensures noted { OnlyAdds (ComesBehind i)
-        (done_entries (is_err result || abandoned books.old.log) books.old.log i done
-        ++ books.old.log) books.new.log }
-    ensures marked { books.new.run.short ≡ (wants_memory done || books.old.run.short) }
-    ensures well { OnOk result (IsWellLanded i books.old books.new) }
-    ensures reason { IfErr result (LacksBirth books.new.log) }
+        (done_entries (is_err result || abandoned engine.old.log) engine.old.log i done
+        ++ engine.old.log) engine.new.log }
+    ensures marked { engine.new.run.out_of_memory ≡ (wants_memory done || engine.old.run.out_of_memory) }
+    ensures well { OnOk result (IsWellLanded i engine.old engine.new) }
+    ensures reason { IfErr result (LacksBirth engine.new.log) }
 {
     match done {
         Done::Nothing => Ok(()),
-        Done::Read(turned) => note_turn(books, alloc, i, task, turned),
+        Done::Read(turned) => note_turn(engine, alloc, i, task, turned),
         Done::Attempted { all, sent, reply } => {
-            land_attempt(books, i, &all, sent, reply);
+            land_attempt(engine, i, &all, sent, reply);
             Ok(())
         }
-        Done::Judged(ports) => land_judged(books, alloc, i, &ports),
+        Done::Judged(ports) => land_judged(engine, alloc, i, &ports),
         Done::Closed => {
-            note_closed(books, i);
+            note_closed(engine, i);
             Ok(())
         }
-        Done::Short => {
-            mark_short(books, i);
+        Done::OutOfMemory => {
+            mark_out_of_memory(engine, i);
             Err(Short::WantOfMemory)
         }
         Done::Starved => {
-            mark_starved(books, i);
+            mark_starved(engine, i);
             Err(Short::WantOfMemory)
         }
     }
@@ -127,63 +127,63 @@ fn note_done<P: Port>(
 
 // Notes a turn of a source.
 fn note_turn<P: Port>(
-    books: &mut Books<P>,
+    engine: &mut EngineState<P>,
     alloc: Global,
     i: u32,
     task: &Task<P>,
     turned: Turned,
 ) -> Result<(), Short>
-    requires stands { Stands P.told books.old }
-    requires within { i < length books.old.seats }
-    requires back { IsBackWith P.told books.old i task.now (Done.Read turned) }
-    ensures landed { HasLanded P.told i task.now books.old books.new }
+    requires stands { Stands P.observed engine.old }
+    requires within { i < length engine.old.states }
+    requires back { IsBackWith P.observed engine.old i task.now (Done.Read turned) }
+    ensures landed { HasLanded P.observed i task.now engine.old engine.new }
     ensures noted { OnlyAdds (ComesBehind i)
-        (turn_entry books.old.log i turned ∷ books.old.log) books.new.log }
-    ensures marked { books.new.run.short ≡ (lacks_cut turned || books.old.run.short) }
-    ensures well { OnOk result (IsWellLanded i books.old books.new) }
-    ensures reason { IfErr result (LacksBirth books.new.log) }
+        (turn_entry engine.old.log i turned ∷ engine.old.log) engine.new.log }
+    ensures marked { engine.new.run.out_of_memory ≡ (lacks_cut turned || engine.old.run.out_of_memory) }
+    ensures well { OnOk result (IsWellLanded i engine.old engine.new) }
+    ensures reason { IfErr result (LacksBirth engine.new.log) }
 {
     match turned {
         Turned::Idle => {
-            note_idle(books, i, false);
+            note_idle(engine, i, false);
             Ok(())
         }
         Turned::Failed { at_start } => {
-            note_failed(books, i, at_start);
+            note_failed(engine, i, at_start);
             Ok(())
         }
-        turned => land_read(books, alloc, i, task, turned),
+        turned => land_read(engine, alloc, i, task, turned),
     }
 }
 
-// Notes what a turn of a source took, and bears the batch of that. Where no memory was found to cut it, what the instance owes and
-// counts isn't known any more.
+// Notes what a turn of a source took, and creates the batch of that. Where no memory was found to cut it, what the instance owes
+// and counts isn't known any more.
 fn land_read<P: Port>(
-    books: &mut Books<P>,
+    engine: &mut EngineState<P>,
     alloc: Global,
     i: u32,
     task: &Task<P>,
     turned: Turned,
 ) -> Result<(), Short>
-    requires stands { Stands P.told books.old }
-    requires within { i < length books.old.seats }
-    requires back { IsBackWith P.told books.old i task.now (Done.Read turned) }
+    requires stands { Stands P.observed engine.old }
+    requires within { i < length engine.old.states }
+    requires back { IsBackWith P.observed engine.old i task.now (Done.Read turned) }
     requires reading { is_reading turned ≡ true }
-    ensures landed { HasLanded P.told i task.now books.old books.new }
+    ensures landed { HasLanded P.observed i task.now engine.old engine.new }
     ensures noted { OnlyAdds (ComesBehind i)
-        (turn_entry books.old.log i turned ∷ books.old.log) books.new.log }
-    ensures marked { books.new.run.short ≡ (lacks_cut turned || books.old.run.short) }
-    ensures well { OnOk result (IsWellLanded i books.old books.new) }
-    ensures reason { IfErr result (LacksBirth books.new.log) }
+        (turn_entry engine.old.log i turned ∷ engine.old.log) engine.new.log }
+    ensures marked { engine.new.run.out_of_memory ≡ (lacks_cut turned || engine.old.run.out_of_memory) }
+    ensures well { OnOk result (IsWellLanded i engine.old engine.new) }
+    ensures reason { IfErr result (LacksBirth engine.new.log) }
 {
-    note_read(books, i, &turned);
+    note_read(engine, i, &turned);
     match into_cut(turned) {
-        Some((stream, cut)) => match bear_cut(books, alloc, i, stream, cut) {
+        Some((stream, cut)) => match create_cut_batch(engine, alloc, i, stream, cut) {
             Ok(()) => Ok(()),
             Err(short) => Err(short),
         },
         None => {
-            mark_short(books, i);
+            mark_out_of_memory(engine, i);
             Err(Short::WantOfMemory)
         }
     }

@@ -1,5 +1,5 @@
-//! How a task comes home: what it did is noted in the books, and where the run is given up what stands at it is given up. And what an
-//! instance does that merges, in one call.
+//! How a task comes back: what it did is noted in the engine's state, and where the run is given up what stands at it is given up.
+//! And what an instance does that merges, in one call.
 #![tactic(auto)]
 
 mod ceasing;
@@ -7,5 +7,5 @@ mod land;
 mod landing;
 mod merging;
 
-pub use land::bring_home;
+pub use land::accept_landing;
 pub use merging::merge;

@@ -1,4 +1,4 @@
-// What an instance does that merges: it is leased, does what there is to do, and is home again.
+// What an instance does that merges: it is leased, does what there is to do, and is unleased again.
 ghost use Rattle.std.specs.Prelude.{◌≡◌, ◌<◌, ◌≤◌, [], length, true, false, IfErr, OnErr, OnOk};
 ghost use Rattle.vx_record.specs.Additions.{OnlyAdds};
 ghost use Rattle.vx_record.specs.Inputs.{unanswered};
@@ -17,7 +17,7 @@ ghost use Rattle.vx_landing.specs.Standing.{AwayIsWell, IsWell, LentWhileOut};
 use std::alloc::Global;
 use vx_ends::Port;
 use vx_ledger::Short;
-use vx_moves::Books;
+use vx_moves::EngineState;
 use vx_ready::{is_check_due, must_flush};
 use vx_value::WantOfMemory;
 
@@ -26,53 +26,53 @@ const TAKES: u32 = 64;
 
 /// Has an instance that merges do what there is to do at a moment, in milliseconds, in the name of a worker. It is leased, takes what
 /// is buffered, and answers that; then it puts out all that it holds if nothing more can come, or acts by itself if its check is due.
-/// Then it is home again, with the task that it had.
+/// Then it is unleased again, with the task that it had.
 ///
 /// For want of memory it answers nothing, and what it owes isn't known any more.
 pub fn merge<P: Port>(
-    books: &mut Books<P>,
+    engine: &mut EngineState<P>,
     alloc: Global,
     i: u32,
     worker: u32,
     now: u64,
 ) -> Result<(), Short>
-    requires stands { Stands P.told books.old }
-    requires served { IsServed books.old }
-    requires within { i < length books.old.seats }
-    requires joins { joins_at books.old.log i ≡ true }
-    requires leasable { IsLeasable books.old i now }
-    requires latest { books.old.run.latest ≤ now }
-    requires lent { LentWhileOut books.old }
-    requires away { AwayIsWell books.old }
-    ensures merged { HasMerged P.told i worker now books.old books.new }
-    ensures answered { OnOk result (unanswered books.new.log i ≡ []) }
-    ensures well { OnOk result (IsWell books.old → IsWell books.new) }
+    requires stands { Stands P.observed engine.old }
+    requires served { IsServed engine.old }
+    requires within { i < length engine.old.states }
+    requires joins { joins_at engine.old.log i ≡ true }
+    requires leasable { IsLeasable engine.old i now }
+    requires latest { engine.old.run.latest ≤ now }
+    requires lent { LentWhileOut engine.old }
+    requires away { AwayIsWell engine.old }
+    ensures merged { HasMerged P.observed i worker now engine.old engine.new }
+    ensures answered { OnOk result (unanswered engine.new.log i ≡ []) }
+    ensures well { OnOk result (IsWell engine.old → IsWell engine.new) }
     ensures short { IfErr result (λ short. short ≡ NoMemory) }
 {
-    let (task, _positions) = books.lease(i, worker, now);
-    let worked = work(books, alloc, i, now);
-    books.home(i, task);
+    let (task, _positions) = engine.lease(i, worker, now);
+    let worked = work(engine, alloc, i, now);
+    engine.return_task(i, task);
     worked
 }
 
 // Has an instance do what there is to do that was leased at a moment. For want of memory what it owes isn't known any more.
-fn work<P: Port>(books: &mut Books<P>, alloc: Global, i: u32, now: u64) -> Result<(), Short>
-    requires stands { Stands P.told books.old }
-    requires served { IsServed books.old }
-    requires within { i < length books.old.seats }
-    requires taking { IsTaking books.old.log i now }
-    requires fresh { length (since_lease books.old.log i) ≡ 0 }
-    requires bare { unanswered books.old.log i ≡ [] }
-    ensures worked { HasWorked P.told i books.old books.new }
-    ensures well { OnOk result (HasWorkedWell i books.old books.new) }
-    ensures owing { OnErr result (IsOwingNow i books.old.seats books.new.seats) }
+fn work<P: Port>(engine: &mut EngineState<P>, alloc: Global, i: u32, now: u64) -> Result<(), Short>
+    requires stands { Stands P.observed engine.old }
+    requires served { IsServed engine.old }
+    requires within { i < length engine.old.states }
+    requires taking { IsTaking engine.old.log i now }
+    requires fresh { length (since_lease engine.old.log i) ≡ 0 }
+    requires bare { unanswered engine.old.log i ≡ [] }
+    ensures worked { HasWorked P.observed i engine.old engine.new }
+    ensures well { OnOk result (HasWorkedWell i engine.old engine.new) }
+    ensures owing { OnErr result (IsOwingNow i engine.old.states engine.new.states) }
     ensures short { IfErr result (λ short. short ≡ NoMemory) }
 {
-    let took = take_inputs(books, i, now);
-    match answer(books, alloc, i, now, took) {
+    let took = take_inputs(engine, i, now);
+    match answer(engine, alloc, i, now, took) {
         Ok(()) => Ok(()),
         Err(WantOfMemory) => {
-            books.seats.owed(i);
+            engine.states.owed(i);
             Err(Short::WantOfMemory)
         }
     }
@@ -80,21 +80,21 @@ fn work<P: Port>(books: &mut Books<P>, alloc: Global, i: u32, now: u64) -> Resul
 
 // Takes what is buffered, until nothing is, its keeper has no room, or so many were taken as one lease takes. Whether anything was
 // taken. It takes no memory.
-fn take_inputs<P: Port>(books: &mut Books<P>, i: u32, now: u64) -> bool
-    requires stands { Stands P.told books.old }
-    requires within { i < length books.old.seats }
-    requires taking { IsTaking books.old.log i now }
-    requires fresh { length (since_lease books.old.log i) ≡ 0 }
-    ensures stands { Stands P.told books.new }
-    ensures taking { IsTaking books.new.log i now }
-    ensures some { result ≡ true → HasInputs books.new.log i }
-    ensures none { result ≡ false → books.new ≡ books.old }
-    ensures only { OnlyAdds (IsMergeStep i) books.old.log books.new.log }
-    ensures leaves { Leaves books.old books.new }
-    ensures size { length books.new.seats ≡ length books.old.seats }
+fn take_inputs<P: Port>(engine: &mut EngineState<P>, i: u32, now: u64) -> bool
+    requires stands { Stands P.observed engine.old }
+    requires within { i < length engine.old.states }
+    requires taking { IsTaking engine.old.log i now }
+    requires fresh { length (since_lease engine.old.log i) ≡ 0 }
+    ensures stands { Stands P.observed engine.new }
+    ensures taking { IsTaking engine.new.log i now }
+    ensures some { result ≡ true → HasInputs engine.new.log i }
+    ensures none { result ≡ false → engine.new ≡ engine.old }
+    ensures only { OnlyAdds (IsMergeStep i) engine.old.log engine.new.log }
+    ensures leaves { Leaves engine.old engine.new }
+    ensures size { length engine.new.states ≡ length engine.old.states }
 {
     for taken in 0..TAKES {
-        if !take_input(books, i, now) {
+        if !take_input(engine, i, now) {
             return taken > 0;
         }
     }
@@ -102,20 +102,20 @@ fn take_inputs<P: Port>(books: &mut Books<P>, i: u32, now: u64) -> bool
 }
 
 // Takes one more parcel; `false` where there is none to take, or no room for it.
-fn take_input<P: Port>(books: &mut Books<P>, i: u32, now: u64) -> bool
-    requires stands { Stands P.told books.old }
-    requires within { i < length books.old.seats }
-    requires taking { IsTaking books.old.log i now }
-    requires few { length (since_lease books.old.log i) < 64 }
-    ensures took { result ≡ true → HasTakenOne P.told i now books.old books.new }
-    ensures none { result ≡ false → books.new ≡ books.old }
+fn take_input<P: Port>(engine: &mut EngineState<P>, i: u32, now: u64) -> bool
+    requires stands { Stands P.observed engine.old }
+    requires within { i < length engine.old.states }
+    requires taking { IsTaking engine.old.log i now }
+    requires few { length (since_lease engine.old.log i) < 64 }
+    ensures took { result ≡ true → HasTakenOne P.observed i now engine.old engine.new }
+    ensures none { result ≡ false → engine.new ≡ engine.old }
 {
-    if !books.has_kept_room(i) {
+    if !engine.has_kept_room(i) {
         return false;
     }
-    match books.places.first_filled(i) {
+    match engine.places.first_filled(i) {
         Some(stage) => {
-            books.take_kept(i, stage, now);
+            engine.take_kept(i, stage, now);
             true
         }
         None => false,
@@ -125,55 +125,60 @@ fn take_input<P: Port>(books: &mut Books<P>, i: u32, now: u64) -> bool
 // Answers what was taken, if anything was. Then it puts out all that it holds if nothing more can come, or acts by itself if its check
 // is due.
 fn answer<P: Port>(
-    books: &mut Books<P>,
+    engine: &mut EngineState<P>,
     alloc: Global,
     i: u32,
     now: u64,
     took: bool,
 ) -> Result<(), WantOfMemory>
-    requires stands { Stands P.told books.old }
-    requires served { IsServed books.old }
-    requires within { i < length books.old.seats }
-    requires taking { IsTaking books.old.log i now }
-    requires some { took ≡ true → HasInputs books.old.log i }
-    requires none { took ≡ false → unanswered books.old.log i ≡ [] }
-    ensures stands { Stands P.told books.new }
-    ensures only { OnlyAdds (IsMergeOf i) books.old.log books.new.log }
-    ensures answered { OnOk result (unanswered books.new.log i ≡ []) }
-    ensures leaves { Leaves books.old books.new }
-    ensures size { length books.new.seats ≡ length books.old.seats }
+    requires stands { Stands P.observed engine.old }
+    requires served { IsServed engine.old }
+    requires within { i < length engine.old.states }
+    requires taking { IsTaking engine.old.log i now }
+    requires some { took ≡ true → HasInputs engine.old.log i }
+    requires none { took ≡ false → unanswered engine.old.log i ≡ [] }
+    ensures stands { Stands P.observed engine.new }
+    ensures only { OnlyAdds (IsMergeOf i) engine.old.log engine.new.log }
+    ensures answered { OnOk result (unanswered engine.new.log i ≡ []) }
+    ensures leaves { Leaves engine.old engine.new }
+    ensures size { length engine.new.states ≡ length engine.old.states }
 {
     if !took {
-        return act(books, alloc, i, now);
+        return act(engine, alloc, i, now);
     }
-    match books.merge_taken(alloc, i, now) {
-        Ok(()) => act(books, alloc, i, now),
+    match engine.merge_taken(alloc, i, now) {
+        Ok(()) => act(engine, alloc, i, now),
         Err(WantOfMemory) => Err(WantOfMemory),
     }
 }
 
 // Has an instance that answered all that it took put out all that it holds if nothing more can come, or act by itself if its check is
 // due.
-fn act<P: Port>(books: &mut Books<P>, alloc: Global, i: u32, now: u64) -> Result<(), WantOfMemory>
-    requires stands { Stands P.told books.old }
-    requires served { IsServed books.old }
-    requires within { i < length books.old.seats }
-    requires merging { IsMerging books.old.log i now }
-    requires none { unanswered books.old.log i ≡ [] }
-    ensures stands { Stands P.told books.new }
-    ensures only { OnlyAdds (IsMergeOf i) books.old.log books.new.log }
-    ensures answered { OnOk result (unanswered books.new.log i ≡ []) }
-    ensures leaves { Leaves books.old books.new }
-    ensures size { length books.new.seats ≡ length books.old.seats }
+fn act<P: Port>(
+    engine: &mut EngineState<P>,
+    alloc: Global,
+    i: u32,
+    now: u64,
+) -> Result<(), WantOfMemory>
+    requires stands { Stands P.observed engine.old }
+    requires served { IsServed engine.old }
+    requires within { i < length engine.old.states }
+    requires merging { IsMerging engine.old.log i now }
+    requires none { unanswered engine.old.log i ≡ [] }
+    ensures stands { Stands P.observed engine.new }
+    ensures only { OnlyAdds (IsMergeOf i) engine.old.log engine.new.log }
+    ensures answered { OnOk result (unanswered engine.new.log i ≡ []) }
+    ensures leaves { Leaves engine.old engine.new }
+    ensures size { length engine.new.states ≡ length engine.old.states }
 {
-    if books.keeps_none(i) {
+    if engine.keeps_none(i) {
         return Ok(());
     }
-    if must_flush(books, i) {
-        return books.merge_flush(alloc, i, now);
+    if must_flush(engine, i) {
+        return engine.merge_flush(alloc, i, now);
     }
-    if is_check_due(books, i, now) {
-        return books.merge_tick(alloc, i, now);
+    if is_check_due(engine, i, now) {
+        return engine.merge_tick(alloc, i, now);
     }
     Ok(())
 }

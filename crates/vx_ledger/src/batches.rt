@@ -116,7 +116,7 @@ impl Batches {
         match self.add_row(instance, n) {
             Ok(()) => Ok((first, copies)),
             Err(_) => {
-                copies.unmake();
+                copies.destroy_unspent();
                 Err(Short::WantOfMemory)
             }
         }
@@ -162,7 +162,7 @@ impl Batches {
         match self.add_row(instance, n) {
             Ok(()) => Ok((first, ItemList::from_vec(lists))),
             Err(_) => {
-                children::unmake_all(lists);
+                children::destroy_all_unspent(lists);
                 Err(Short::WantOfMemory)
             }
         }
@@ -308,7 +308,7 @@ impl Batches {
         ensures kept { IsKept self.new }
     {
         let (batch, place) = (finalizer.batch(), finalizer.place());
-        finalizer.unmake();
+        finalizer.destroy_unspent();
         rows::spend(&mut self.rows, batch, place, outcome)
     }
 }

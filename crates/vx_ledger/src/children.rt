@@ -7,10 +7,10 @@ use std::alloc::Global;
 use vx_value::{ItemList, WantOfMemory};
 
 // Ends lists of copies that were never handed out.
-pub(crate) fn unmake_all(lists: Vec<Finalizers>) {
+pub(crate) fn destroy_all_unspent(lists: Vec<Finalizers>) {
     let mut rest = lists;
     while let Some(list) = rest.pop() {
-        list.unmake();
+        list.destroy_unspent();
     }
     rest.destroy_empty();
 }
@@ -32,7 +32,7 @@ pub(crate) fn for_first(
         match parent.renumbered(alloc, number) {
             Ok(child) => lists.push_reserved(child),
             Err(WantOfMemory) => {
-                unmake_all(lists);
+                destroy_all_unspent(lists);
                 return Err(WantOfMemory);
             }
         }

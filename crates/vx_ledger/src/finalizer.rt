@@ -59,7 +59,7 @@ impl Finalizer {
     }
 
     // Only the ledger ends a finalizer.
-    pub(crate) fn unmake(self) {
+    pub(crate) fn destroy_unspent(self) {
         let Finalizer {
             batch: _,
             number: _,

@@ -129,7 +129,7 @@ impl Finalizers {
         match kept {
             Kept::Few(None) => {}
             Kept::Few(Some(finalizer)) => {
-                finalizer.unmake();
+                finalizer.destroy_unspent();
                 unreachable!();
             }
             Kept::Many(items) => items.destroy_empty(),
@@ -230,10 +230,10 @@ impl Finalizers {
     }
 
     // Only the ledger ends finalizers that aren't spent: copies that were never handed out.
-    pub(crate) fn unmake(self) {
+    pub(crate) fn destroy_unspent(self) {
         let mut rest = self;
         while let Some(finalizer) = rest.pop() {
-            finalizer.unmake();
+            finalizer.destroy_unspent();
         }
         rest.end();
     }

@@ -22,7 +22,7 @@ fn child(alloc: Global, target: u64, parcel: &Parcel, first: u64) -> Result<Chil
 }
 
 // Ends children that were never handed out.
-fn unmake_all(children: Vec<Child>) {
+fn destroy_all_unspent(children: Vec<Child>) {
     let mut rest = children;
     while let Some(child) = rest.pop() {
         let Child { target: _, parcel } = child;
@@ -30,7 +30,7 @@ fn unmake_all(children: Vec<Child>) {
             event: _,
             finalizers,
         } = parcel;
-        finalizers.unmake();
+        finalizers.destroy_unspent();
     }
     rest.destroy_empty();
 }
@@ -56,7 +56,7 @@ pub(crate) fn children(
         match child(alloc, *target, parcel, number) {
             Ok(child) => children.push_reserved(child),
             Err(WantOfMemory) => {
-                unmake_all(children);
+                destroy_all_unspent(children);
                 return Err(WantOfMemory);
             }
         }

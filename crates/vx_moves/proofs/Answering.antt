@@ -3,7 +3,7 @@ use Rattle.std.proofs.Common.{◌≡◌, ◌∙◌, ℕ, ◌+◌, ◌≤◌, Boo
 use Rattle.std.specs.Prelude.{◌==◌, if◌then◌else◌, count_by, IsSomeAnd}
 use Rattle.std.proofs.lemmas.Bool.Decides.{nat_tests}
 use Rattle.std.proofs.lemmas.List.{length-map}
-use Rattle.vx_ends.specs.Told.{Told}
+use Rattle.vx_ends.specs.Observation.{Observation}
 use Rattle.vx_ledger.specs.Copies.{numbers_of}
 use Rattle.vx_ledger.specs.declared.parcel.Parcel.{Parcel}
 use Rattle.vx_record.specs.declared.entry.Entry.{Entry}
@@ -24,16 +24,16 @@ use Rattle.vx_places.specs.declared.row.Row.{Row}
 use Rattle.vx_places.specs.Calls.{HasOutputRoomFor, PutsOut}
 use Rattle.vx_places.specs.Holding.{AreKnown, Shifts}
 use Rattle.vx_places.specs.Numbers.{numbers, parcels_out}
-use Rattle.vx_places.specs.Rooms.{SameRooms}
+use Rattle.vx_places.specs.Capacities.{SameCapacities}
 use Rattle.vx_places.specs.Views.{parcels_here, row_at}
-use Rattle.vx_seats.specs.declared.seat.Seat.{Seat}
-use Rattle.vx_seats.specs.Knowing.{Knows}
+use Rattle.vx_instances.specs.declared.state.InstanceState.{InstanceState}
+use Rattle.vx_instances.specs.Knowing.{Knows}
 use Rattle.vx_tasks.specs.Judging.{put_out_on, refused_on, passed, stopped, AreDivided}
 use Rattle.vx_tasks.specs.Out.{IsHeld}
 use Rattle.vx_tasks.proofs.Answering.{distinct_there}
 use Rattle.vx_tasks.proofs.Dividing.{answer_divides, answer_known}
 use Rattle.vx_tasks.proofs.Writing.{events_said}
-use Rattle.vx_moves.specs.declared.books.Books.{Books}
+use Rattle.vx_moves.specs.declared.engine.EngineState.{EngineState}
 use Rattle.vx_moves.specs.Answering.{answer_by, put_out_of, refused_of, MayAnswerNow}
 use Rattle.vx_moves.specs.Stands.{Stands, Steps}
 use Rattle.vx_tasks.specs.Joining.{joins_at}
@@ -108,7 +108,7 @@ room_for rows i ports parcels room = go (row_at rows i) room
     go (Some row) room = let few = few_pass ports parcels in omega (arith, few, room)
 
 -- THE STEP
-module _ {P : Type 0} {told_by : P → Told} {old : Books P} {i : ℕ} {ports : List ℕ} {parcels : List Parcel} (stood : Stands told_by old)
+module _ {P : Type 0} {observe : P → Observation} {old : EngineState P} {i : ℕ} {ports : List ℕ} {parcels : List Parcel} (stood : Stands observe old)
     (may : MayAnswerNow old.log i ports) (held : IsHeld old.log i parcels) where
   -- each parcel was judged
   pub each_judged : length ports ≡ length parcels
@@ -141,18 +141,18 @@ module _ {P : Type 0} {told_by : P → Told} {old : Books P} {i : ℕ} {ports : 
       (ap (λ (outputs : List Output). shrunk (put_out outputs) (parcels_at (Held i) (stands old.log))) (outs_are old.log i ports parcels held)
       ∙ ap (shrunk (put_out (put_out_on ports parcels))) (stands_at old.log (Held i) stood.legal ∙ sym held.held) ∙ divided.left)) (stay_begun alone)
 
-  -- where what is held is lent, and what passes is put out, the books stand for the record with the answer
-  pub answer_step : {places : List Row} {seats : List (Seat P)} {log : Record} → joins_at old.log i ≡ false → parcels_here old.places (Held i) ≡ None →
-      PutsOut i (passed ports parcels) old.places places → Behind old.log (answer_by old.log i ports) (Knows told_by seats) →
-      log ≡ answer_by old.log i ports ∷ old.log → length places ≡ length old.places → length seats ≡ length old.seats → SameRooms old.places places →
-      Steps told_by (answer_by old.log i ports) old (record old { places = places; seats = seats; log = log })
-  answer_step {places} alone lent puts knows noted rows size rooms =
+  -- where what is held is lent, and what passes is put out, the engine's state stands for the record with the answer
+  pub answer_step : {places : List Row} {states : List (InstanceState P)} {log : Record} → joins_at old.log i ≡ false → parcels_here old.places (Held i) ≡ None →
+      PutsOut i (passed ports parcels) old.places places → Behind old.log (answer_by old.log i ports) (Knows observe states) →
+      log ≡ answer_by old.log i ports ∷ old.log → length places ≡ length old.places → length states ≡ length old.states → SameCapacities old.places places →
+      Steps observe (answer_by old.log i ports) old (record old { places = places; states = states; log = log })
+  answer_step {places} alone lent puts knows noted rows size capacities =
       let same = answer_is old.log i ports parcels held in
       let shifts : Shifts (answer_by old.log i ports) (parcels_out (passed ports parcels)) old.places places =
       rw same (puts.answered (put_out_on ports parcels) (refused_on ports parcels) [] divided.noted divided.filled_out lent) in
       moved_step stood (assumption) leaves_begun (spares_other old.log i alone) may.may (never_both may.going) noted shifts
       (λ _. subst (λ (e : Entry). AreKnown (e ∷ old.log) (parcels_out (passed ports parcels))) (sym same) (answer_known old.log i ports parcels held.known).0) knows
-      (λ _. aside_kept old.balance old.log (answer_by old.log i ports) tt stood.balance) rows size rooms
+      (λ _. aside_kept old.balance old.log (answer_by old.log i ports) tt stood.balance) rows size capacities
 
   -- and what stays is what the record then has the instance hold
   pub answer_held : IsHeld (answer_by old.log i ports ∷ old.log) i (stopped ports parcels)

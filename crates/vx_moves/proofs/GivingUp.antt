@@ -3,7 +3,7 @@ use Rattle.std.proofs.Common.{◌≡◌, ◌∙◌, ℕ, ◌+◌, ◌<◌, Bool,
 use Rattle.std.specs.Prelude.{◌==◌, ◌&&◌, if◌then◌else◌, IsSomeAnd}
 use Rattle.std.specs.Global.{Vec}
 use Rattle.std.proofs.lemmas.Bool.{cases_eq}
-use Rattle.vx_ends.specs.Told.{Told}
+use Rattle.vx_ends.specs.Observation.{Observation}
 use Rattle.vx_status.specs.declared.outcome.Outcome.TheVariants.{Abandoned}
 use Rattle.vx_ledger.specs.Copies.{Copy}
 use Rattle.vx_ledger.specs.Ledger.{Ledger}
@@ -26,7 +26,7 @@ use Rattle.vx_record.specs.Places.Place.{Held}
 use Rattle.vx_record.specs.Shifts.{at}
 use Rattle.vx_record.specs.Turns.{is_out}
 use Rattle.vx_record.proofs.Adding.{adds_none, adds_one}
-use Rattle.vx_record.proofs.Hands.{AreAt, others_stay}
+use Rattle.vx_record.proofs.HeldCopies.{AreAt, others_stay}
 use Rattle.vx_record.proofs.OnePlace.{conserved}
 use Rattle.vx_record.proofs.Shifting.{stands_at}
 use Rattle.vx_balance.specs.Owned.{IsOfBatch}
@@ -34,15 +34,15 @@ use Rattle.vx_places.proofs.Recorded.{stands_there}
 use Rattle.vx_places.proofs.Spending.{lent_spent_shifts}
 use Rattle.vx_places.proofs.Steps.{still_shifts}
 use Rattle.vx_places.proofs.Written.{each_place}
-use Rattle.vx_seats.specs.declared.seat.Seat.{Seat}
-use Rattle.vx_seats.specs.Staying.{EachSeat, Stays}
+use Rattle.vx_instances.specs.declared.state.InstanceState.{InstanceState}
+use Rattle.vx_instances.specs.Staying.{EachState, Stays}
 use Rattle.vx_tasks.specs.Joining.{is_joining, joins_at}
 use Rattle.vx_keeping.specs.Kept.{Kept}
 use Rattle.vx_keeping.specs.Keeping.{Accounts, IsMade}
 use Rattle.vx_keeping.proofs.Going.{unfit_keeps}
 use Rattle.vx_keeping.proofs.Resting.{ticks_stay}
 use Rattle.vx_keeping.proofs.Calls.{none_there}
-use Rattle.vx_moves.specs.declared.books.Books.{Books}
+use Rattle.vx_moves.specs.declared.engine.EngineState.{EngineState}
 use Rattle.vx_moves.specs.Keepers.{keeper_at, IsKept, AreKept, OneKeeper, Loses, IsEmptied}
 use Rattle.vx_moves.specs.Spends.{IsSpendOf, IsSettled, OnlySpends, unspent}
 use Rattle.vx_moves.specs.Stands.{Stands}
@@ -64,8 +64,8 @@ pub record IsThere (h : Record) (i : ℕ) (copy : Copy) : Type 0 where
   pub follows : Follows h (Spent i copy.number Abandoned)
   pub legal : IsLegal (Spent i copy.number Abandoned ∷ h)
 
-module _ {P : Type 0} {told_by : P → Told} {old : Books P} (slots : Vec (Option Kept)) (i : ℕ) (copy : Copy) (stands : Stands told_by old)
-    (joins : joins_at old.log i ≡ true) (over : abandoned old.log ≡ true) (home : is_out old.log i ≡ false)
+module _ {P : Type 0} {observe : P → Observation} {old : EngineState P} (slots : Vec (Option Kept)) (i : ℕ) (copy : Copy) (stands : Stands observe old)
+    (joins : joins_at old.log i ≡ true) (over : abandoned old.log ≡ true) (unleased : is_out old.log i ≡ false)
     (one : OneKeeper (Loses copy) i old.keepers.items slots.items) where
   abbrev e : Entry
   e = Spent i copy.number Abandoned
@@ -80,7 +80,7 @@ module _ {P : Type 0} {told_by : P → Told} {old : Books P} (slots : Vec (Optio
   is_there =
       let found = was_there (keeper_at old.keepers.items i) (keeper_at slots.items i) one.one (accounted old.log i (keeper_at old.keepers.items i) (stands.keeps i)) in
       let live = stands_there old.log copy.number (Held i) stands.legal found.0 in
-      let follow = follows e old.balance old.log stands.balance (record { live = live.0; here = live.1; cause = (over, home) }) (λ given. refl) in
+      let follow = follows e old.balance old.log stands.balance (record { live = live.0; here = live.1; cause = (over, unleased) }) (λ given. refl) in
       record { there = found.0; of_batch = assumption found.1; live = live.0; follows = follow; legal = (follow, stands.legal) }
 
   others_now : (q : Place) → same_place (Held i) q ≡ false → at (e ∷ old.log) q ≡ at old.log q
@@ -102,10 +102,10 @@ module _ {P : Type 0} {told_by : P → Told} {old : Books P} (slots : Vec (Optio
     | inr other ↦ rw (one.others j other) (stays_kept (keeper_at old.keepers.items j) old.log j e legal (λ here. absurd (other (sym here))) (stands.keeps j))
   ]
 
-  -- where the spend of such a copy is settled, the books stand
-  pub given_up_step : {log : Record} {account : Ledger} {seats : List (Seat P)} → IsSettled told_by e old.log log account seats →
-      length seats ≡ length old.seats → EachSeat Stays old.seats seats →
-      OnlySpends told_by i Abandoned old (record old { keepers = slots; seats = seats; balance = account; log = log })
+  -- where the spend of such a copy is settled, the engine's state stands
+  pub given_up_step : {log : Record} {account : Ledger} {states : List (InstanceState P)} → IsSettled observe e old.log log account states →
+      length states ≡ length old.states → EachState Stays old.states states →
+      OnlySpends observe i Abandoned old (record old { keepers = slots; states = states; balance = account; log = log })
   given_up_step {log} settled size stay =
       let h = old.log in
       let kind = IsSpendOf i Abandoned in
@@ -117,7 +117,7 @@ module _ {P : Type 0} {told_by : P → Told} {old : Books P} (slots : Vec (Optio
         places = moves.places;
         run = moves.run;
         kept = moves.kept;
-        rooms = moves.rooms;
+        capacities = moves.capacities;
         begun = moves.begun;
         keepers = one_keepers i old.keepers.items slots.items old.places (e ∷ h) one moves.keepers;
       } in
@@ -136,17 +136,17 @@ module _ {P : Type 0} {told_by : P → Told} {old : Books P} (slots : Vec (Optio
         stands = assumption (settled, rests, kept, stands.size ∙ sym size);
         empty = λ q none. behind (λ k. at k q ≡ []) (empties q none) (λ b status. empties q none) settled.noted;
         others = λ q other. behind (λ k. at k q ≡ at h q) (others q other) (λ b status. others q other) settled.noted;
-        leaves = record { seats = stay; rooms = λ j. (refl, refl); run = refl };
+        leaves = record { states = stay; capacities = λ j. (refl, refl); run = refl };
         size = size;
       }
 
-  pub given_up_fewer : {log : Record} {account : Ledger} {seats : List (Seat P)} → IsSettled told_by e old.log log account seats → unspent log + 1 ≡ unspent old.log
+  pub given_up_fewer : {log : Record} {account : Ledger} {states : List (InstanceState P)} → IsSettled observe e old.log log account states → unspent log + 1 ≡ unspent old.log
   given_up_fewer settled =
       let fell = spent_falls old.log i copy.number Abandoned is_there.live in
       behind (λ k. unspent k + 1 ≡ unspent old.log) fell (λ b status. omega (arith, fell, notice_keeps (e ∷ old.log) b status)) settled.noted
 
 -- WHERE NOTHING IS LEFT
-module _ {P : Type 0} {told_by : P → Told} {old : Books P} (slots : Vec (Option Kept)) (i : ℕ) (stands : Stands told_by old)
+module _ {P : Type 0} {observe : P → Observation} {old : EngineState P} (slots : Vec (Option Kept)) (i : ℕ) (stands : Stands observe old)
     (one : OneKeeper IsEmptied i old.keepers.items slots.items) where
   emptied_keeps : (was is : Kept) → IsEmptied was is → IsKept was old.log i → IsKept is old.log i
   emptied_keeps was is emptied had = record {
@@ -157,7 +157,7 @@ module _ {P : Type 0} {told_by : P → Told} {old : Books P} (slots : Vec (Optio
     unticked = had.unticked;
   }
 
-  pub emptied_stands : Stands told_by (record old { keepers = slots })
+  pub emptied_stands : Stands observe (record old { keepers = slots })
   emptied_stands =
       let keepers = one_keepers i old.keepers.items slots.items old.places old.log one stands.keepers in
       let here : IfSome (keeper_at slots.items i) (λ k. IsKept k old.log i) =
@@ -177,13 +177,13 @@ module _ {P : Type 0} {told_by : P → Told} {old : Books P} (slots : Vec (Optio
       go (Some was) None is had = absurd is
       go (Some was) (Some now) is had = none_there was old.log i stands.legal had.keeps.accounts is.had
 
-  pub emptied_spends : OnlySpends told_by i Abandoned old (record old { keepers = slots })
+  pub emptied_spends : OnlySpends observe i Abandoned old (record old { keepers = slots })
   emptied_spends = record {
     only = adds_none (IsSpendOf i Abandoned) old.log old.log refl;
     stands = emptied_stands;
     empty = λ q none. none;
     others = λ q other. refl;
-    leaves = record { seats = each_stays old.seats; rooms = λ j. (refl, refl); run = refl };
+    leaves = record { states = each_stays old.states; capacities = λ j. (refl, refl); run = refl };
     size = refl;
   }
 
@@ -202,8 +202,8 @@ no_sink h i joins class = go (component_of h i) joins class
     go (Some c) joins same = no_class c.class (is_joining c.settings) joins same
 
 -- while the copies of what an instance keeps are given up one after the other
-pub record GivesUpKept {P : Type 0} (told_by : P → Told) (i : ℕ) (old now : Books P) : Type 0 where
-  pub spent : OnlySpends told_by i Abandoned old now
+pub record GivesUpKept {P : Type 0} (observe : P → Observation) (i : ℕ) (old now : EngineState P) : Type 0 where
+  pub spent : OnlySpends observe i Abandoned old now
   pub over : abandoned now.log ≡ true
-  pub home : is_out now.log i ≡ false
+  pub unleased : is_out now.log i ≡ false
   pub joins : joins_at now.log i ≡ true

@@ -11,7 +11,7 @@ use Rattle.vx_record.specs.Places.{Place}
 use Rattle.vx_record.specs.Places.Place.{Outputs, Waiting, Contents, Held}
 use Rattle.vx_counts.specs.Begun.{is_held_of}
 use Rattle.vx_places.specs.Calls.{HasHeldRoom}
-use Rattle.vx_places.specs.Rooms.{held_room}
+use Rattle.vx_places.specs.Capacities.{held_capacity}
 use Rattle.vx_places.specs.Numbers.{numbers}
 use Rattle.vx_places.specs.Views.{parcels_here}
 use Rattle.vx_places.specs.declared.row.Row.{Row}
@@ -66,7 +66,7 @@ place_alone rows h (Held i) apart seen = seen_alone rows h i apart (rw seen refl
 pub room_seen : (rows : List Row) (i : ℕ) → HasHeldRoom rows i → IsSome (parcels_here rows (Held i))
 room_seen rows i room = go (parcels_here rows (Held i)) room
   where
-    go : (o : Option (List Parcel)) → IsSomeAnd o (λ parcels. IsSomeAnd (held_room rows i) (λ room. length parcels < room)) → IsSome o
+    go : (o : Option (List Parcel)) → IsSomeAnd o (λ parcels. IsSomeAnd (held_capacity rows i) (λ room. length parcels < room)) → IsSome o
     go None is = absurd is
     go (Some parcels) is = refl
 

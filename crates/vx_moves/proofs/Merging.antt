@@ -5,7 +5,7 @@ use Rattle.std.specs.Global.{Vec}
 use Rattle.std.proofs.lemmas.Bool.{cases_eq}
 use Rattle.std.proofs.lemmas.Bool.Decides.{nat_tests}
 use Rattle.std.proofs.lemmas.List.{length-map}
-use Rattle.vx_ends.specs.Told.{Told}
+use Rattle.vx_ends.specs.Observation.{Observation}
 use Rattle.vx_value.specs.Texts.{is_empty}
 use Rattle.vx_ledger.specs.Copies.{numbers_of}
 use Rattle.vx_ledger.specs.declared.parcel.Parcel.{Parcel}
@@ -41,12 +41,12 @@ use Rattle.vx_places.specs.declared.row.Row.{Row}
 use Rattle.vx_places.specs.Calls.{HasOutputRoomFor, PutsOut as PutsOutAt, Takes}
 use Rattle.vx_places.specs.Holding.{AreKnown, Holds, Shifts}
 use Rattle.vx_places.specs.Numbers.{AreNoted, parcels_out}
-use Rattle.vx_places.specs.Rooms.{SameRooms}
+use Rattle.vx_places.specs.Capacities.{SameCapacities}
 use Rattle.vx_places.specs.Views.{Same}
 use Rattle.vx_places.proofs.Steps.{same_holds, still_shifts, taken_known}
-use Rattle.vx_seats.specs.declared.seat.Seat.{Seat}
-use Rattle.vx_seats.specs.Knowing.{Knows}
-use Rattle.vx_seats.proofs.Aside.{aside_known}
+use Rattle.vx_instances.specs.declared.state.InstanceState.{InstanceState}
+use Rattle.vx_instances.specs.Knowing.{Knows}
+use Rattle.vx_instances.proofs.Aside.{aside_known}
 use Rattle.vx_keeping.specs.Answers.{notes_of, kept_behind, IsDueBehind, MayBeNoted}
 use Rattle.vx_keeping.specs.Kept.{Kept}
 use Rattle.vx_keeping.specs.Keeping.{taken_in, Accounts, Keeps, HasMade}
@@ -55,25 +55,25 @@ use Rattle.vx_keeping.proofs.Going.{made_keeps, none_taken}
 use Rattle.vx_keeping.proofs.Resting.{ticks_stay}
 use Rattle.vx_keeping.proofs.Answering.{tick_is_due, no_tick_before, to_answer_tick, made_may_be_noted, kept_nothing, may_answer_made}
 use Rattle.vx_keeping.proofs.Others.{outputs_known}
-use Rattle.vx_moves.specs.declared.books.Books.{Books}
+use Rattle.vx_moves.specs.declared.engine.EngineState.{EngineState}
 use Rattle.vx_moves.proofs.Keepers.{stays_kept}
 use Rattle.vx_moves.specs.Keepers.{keeper_at, IsKept, AreKept, AreKeepers, StandApart, IsKeeper, CanAnswer, Rests, ChecksAt, ChecksOnly, OneKeeper, StaysFit, GetsUnfit, TakesIn, AnswersTaken, Ticks, Flushes, FailsShort, PutsOut}
 use Rattle.vx_moves.specs.Merging.{AreMade, StandsMade, MayMerge, MayNoteMade, IsMergeOf, HasAnswered, HasFlushed}
-use Rattle.vx_moves.specs.Rooms.{AreRooms}
-use Rattle.vx_moves.specs.Stands.{KeptAtHome, StandsBy, Stands, Steps}
+use Rattle.vx_moves.specs.Capacities.{AreCapacities}
+use Rattle.vx_moves.specs.Stands.{KeptUnleased, StandsBy, Stands, Steps}
 use Rattle.vx_moves.specs.Taking.{MayTakeNow}
 use Rattle.vx_moves.proofs.Moving.{is_oldest, oldest_is}
 use Rattle.vx_moves.proofs.Stepping.{Behind, follows, moved, never_both, none_put, stands_behind, step}
 
--- with room for what is put out, where each place has what it had, the books stand as before
-pub reserved : {P : Type 0} {told_by : P → Told} {old : Books P} {AreSo : List (Option Kept) → Record → Type 0} {places : List Row} → StandsBy AreSo told_by old old.log →
-    Same old.places places → length places ≡ length old.places → SameRooms old.places places → StandsBy AreSo told_by (record old { places = places }) old.log
-reserved {old = old} {places = places} stands same rows rooms =
+-- with room for what is put out, where each place has what it had, the engine's state stands as before
+pub reserved : {P : Type 0} {observe : P → Observation} {old : EngineState P} {AreSo : List (Option Kept) → Record → Type 0} {places : List Row} → StandsBy AreSo observe old old.log →
+    Same old.places places → length places ≡ length old.places → SameCapacities old.places places → StandsBy AreSo observe (record old { places = places }) old.log
+reserved {old = old} {places = places} stands same rows capacities =
     let holds : Holds places old.log = same_holds old.log old.places places same stands.places in
-    let kept : KeptAtHome places old.log = λ i home alone. rw (same.here (Held i)) (stands.kept i home alone) in
+    let kept : KeptUnleased places old.log = λ i unleased alone. rw (same.here (Held i)) (stands.kept i unleased alone) in
     let apart : StandApart places old.log = λ i joins. same.here (Held i) ∙ stands.keepers.apart i joins in
     let keepers : AreKeepers old.keepers.items places old.log = record { many = stands.keepers.many ∙ sym rows; whose = stands.keepers.whose; apart = apart } in
-    let room : AreRooms places old.log = record { stages = λ i. (rooms i).0 ∙ stands.rooms.stages i; hands = λ i. rw (rooms i).1 (stands.rooms.hands i) } in
+    let room : AreCapacities places old.log = record { stages = λ i. (capacities i).0 ∙ stands.capacities.stages i; holdings = λ i. rw (capacities i).1 (stands.capacities.holdings i) } in
     assumption (rows ∙ stands.size, stands)
 
 -- ONE KEEPER IS CHANGED
@@ -104,10 +104,10 @@ pub some_if : (A : Kept → Type 0) (o : Option Kept) → IsSomeAnd o A → IfSo
 some_if A None is = absurd is
 some_if A (Some k) is = is
 
-module _ {P : Type 0} {told_by : P → Told} {old : Books P} {slots : Vec (Option Kept)} (i : ℕ) where
+module _ {P : Type 0} {observe : P → Observation} {old : EngineState P} {slots : Vec (Option Kept)} (i : ℕ) where
   -- it made something of what it kept
-  pub made_one : {F : Kept → Kept → Type 0} (given : List Input) → Stands told_by old → OneKeeper F i old.keepers.items slots.items →
-      ((was is : Kept) → F was is → IsKept was old.log i → HasMade is old.log i given) → StandsMade told_by i given (record old { keepers = slots })
+  pub made_one : {F : Kept → Kept → Type 0} (given : List Input) → Stands observe old → OneKeeper F i old.keepers.items slots.items →
+      ((was is : Kept) → F was is → IsKept was old.log i → HasMade is old.log i given) → StandsMade observe i given (record old { keepers = slots })
   made_one {F} given stands one makes =
       let keepers = one_keepers i old.keepers.items slots.items old.places old.log one stands.keepers in
       let keeps : AreMade i given slots.items old.log = record {
@@ -117,10 +117,10 @@ module _ {P : Type 0} {told_by : P → Told} {old : Books P} {slots : Vec (Optio
       assumption (keepers, keeps, stands)
 
   -- it failed, whatever it was
-  failed_by : {AreSo : List (Option Kept) → Record → Type 0} → StandsBy AreSo told_by old old.log →
+  failed_by : {AreSo : List (Option Kept) → Record → Type 0} → StandsBy AreSo observe old old.log →
       ((j : ℕ) → j ≢ i → IfSome (keeper_at old.keepers.items j) (λ k. IsKept k old.log j)) →
       IfSome (keeper_at old.keepers.items i) (λ k. Accounts k old.log i × (ticks_wait old.log i ≡ false)) →
-      OneKeeper FailsShort i old.keepers.items slots.items → Stands told_by (record old { keepers = slots })
+      OneKeeper FailsShort i old.keepers.items slots.items → Stands observe (record old { keepers = slots })
   failed_by stands others accounts one =
       let keepers = one_keepers i old.keepers.items slots.items old.places old.log one stands.keepers in
       let here : IfSome (keeper_at slots.items i) (λ k. IsKept k old.log i) =
@@ -133,26 +133,26 @@ module _ {P : Type 0} {told_by : P → Told} {old : Books P} {slots : Vec (Optio
       ] in
       assumption (keepers, keeps, stands)
 
-  pub failed_kept : Stands told_by old → OneKeeper FailsShort i old.keepers.items slots.items → Stands told_by (record old { keepers = slots })
+  pub failed_kept : Stands observe old → OneKeeper FailsShort i old.keepers.items slots.items → Stands observe (record old { keepers = slots })
   failed_kept stands one = failed_by stands (λ j other. stands.keeps j) (accounted (keeper_at old.keepers.items i) (stands.keeps i)) one
     where
       accounted : (o : Option Kept) → IfSome o (λ k. IsKept k old.log i) → IfSome o (λ k. Accounts k old.log i × (ticks_wait old.log i ≡ false))
       accounted None is = tt
       accounted (Some k) is = (is.keeps.accounts, is.unticked)
 
-  pub failed_made : (given : List Input) → StandsMade told_by i given old → ticks_wait old.log i ≡ false → OneKeeper FailsShort i old.keepers.items slots.items →
-      Stands told_by (record old { keepers = slots })
+  pub failed_made : (given : List Input) → StandsMade observe i given old → ticks_wait old.log i ≡ false → OneKeeper FailsShort i old.keepers.items slots.items →
+      Stands observe (record old { keepers = slots })
   failed_made given stands unticked one = failed_by stands stands.keeps.others (accounted (keeper_at old.keepers.items i) stands.keeps.made) one
     where
       accounted : (o : Option Kept) → IsSomeAnd o (λ k. HasMade k old.log i given) → IfSome o (λ k. Accounts k old.log i × (ticks_wait old.log i ≡ false))
       accounted None is = absurd is
       accounted (Some k) is = (is.accounts, unticked)
 
-module _ {P : Type 0} {told_by : P → Told} {old : Books P} (i : ℕ) where
+module _ {P : Type 0} {observe : P → Observation} {old : EngineState P} (i : ℕ) where
   -- THE TICK
   -- where one was made and is noted, what was made waits for the Answer to it
-  pub ticked : (now : ℕ) → StandsMade told_by i (record { step = ticks now; copies = [] } ∷ []) old → MayMerge old.log i now → IsTickDue old.log i now →
-      taken_in old.log i ≡ [] → StandsBy (AreMade i (to_answer (Tick i now ∷ old.log) i)) told_by (record old { log = Tick i now ∷ old.log }) (Tick i now ∷ old.log)
+  pub ticked : (now : ℕ) → StandsMade observe i (record { step = ticks now; copies = [] } ∷ []) old → MayMerge old.log i now → IsTickDue old.log i now →
+      taken_in old.log i ≡ [] → StandsBy (AreMade i (to_answer (Tick i now ∷ old.log) i)) observe (record old { log = Tick i now ∷ old.log }) (Tick i now ∷ old.log)
   ticked now stands may due none =
       let h = old.log in
       let e = Tick i now in
@@ -161,7 +161,7 @@ module _ {P : Type 0} {told_by : P → Told} {old : Books P} (i : ℕ) where
       (record { out = may.out; of_lease = may.moment; due = due; once = may.unticked }) (never_both may.going)
       (λ legal. moved (assumption) tt legal (still_shifts e old.places tt) (none_put (e ∷ h)) (λ j. (refl, refl)) refl (assumption stands))
       (λ legal. record { others = λ j other. stays_kept (keeper_at old.keepers.items j) h j e legal (λ here. other (sym here)) (stands.keeps.others j other); made = go (keeper_at old.keepers.items i) all legal stands.keeps.made })
-      (λ legal. aside_known told_by e h old.seats tt legal stands.seats) (λ _. aside_kept old.balance h e tt stands.balance) refl refl
+      (λ legal. aside_known observe e h old.states tt legal stands.states) (λ _. aside_kept old.balance h e tt stands.balance) refl refl
     where
       go : (o : Option Kept) → to_answer (Tick i now ∷ old.log) i ≡ record { step = ticks now; copies = [] } ∷ [] → IsLegal (Tick i now ∷ old.log) →
           IsSomeAnd o (λ k. HasMade k old.log i (record { step = ticks now; copies = [] } ∷ [])) →
@@ -183,8 +183,8 @@ pub the_one : (F : Kept → Type 0) (o : Option Kept) → IsSomeAnd o F → (k :
 the_one F None is = absurd is
 the_one F (Some k) is = (k, (refl, is))
 
-module _ {P : Type 0} {told_by : P → Told} {old : Books P} (slots : Vec (Option Kept)) (i : ℕ) (outputs : List Output)
-    (stands : StandsMade told_by i (to_answer old.log i) old) (may : MayNoteMade i old) (one : OneKeeper (PutsOut outputs) i old.keepers.items slots.items) where
+module _ {P : Type 0} {observe : P → Observation} {old : EngineState P} (slots : Vec (Option Kept)) (i : ℕ) (outputs : List Output)
+    (stands : StandsMade observe i (to_answer old.log i) old) (may : MayNoteMade i old) (one : OneKeeper (PutsOut outputs) i old.keepers.items slots.items) where
   found : (k : Kept) × ((keeper_at old.keepers.items i ≡ Some k) × HasMade k old.log i (to_answer old.log i))
   found = the_one (λ k. HasMade k old.log i (to_answer old.log i)) (keeper_at old.keepers.items i) stands.keeps.made
 
@@ -214,21 +214,21 @@ module _ {P : Type 0} {told_by : P → Told} {old : Books P} (slots : Vec (Optio
   known = subst (λ os. IsLegal (Answer i (notes_of os) [] kept ∷ old.log) → AreKnown (Answer i (notes_of os) [] kept ∷ old.log) (parcels_out os)) (sym same)
       (outputs_known k old.log i kept found.1.1)
 
-  -- the books stand for the record with it
-  pub answered_made : {places : List Row} {seats : List (Seat P)} → Behind old.log e (Knows told_by seats) → PutsOutAt i outputs old.places places →
-      length places ≡ length old.places → length seats ≡ length old.seats → SameRooms old.places places →
-      Stands told_by (record old { places = places; keepers = slots; seats = seats; log = e ∷ old.log })
-  answered_made {places} {seats} knows puts rows size rooms =
+  -- the engine's state stands for the record with it
+  pub answered_made : {places : List Row} {states : List (InstanceState P)} → Behind old.log e (Knows observe states) → PutsOutAt i outputs old.places places →
+      length places ≡ length old.places → length states ≡ length old.states → SameCapacities old.places places →
+      Stands observe (record old { places = places; keepers = slots; states = states; log = e ∷ old.log })
+  answered_made {places} {states} knows puts rows size capacities =
       let h = old.log in
       let shifts = puts.answered (notes_of outputs) [] kept (noted_so outputs) (rw same may_note.filled) (stands.keepers.apart i may.joins) in
-      stands_behind stands AreKept {new = record old { places = places; keepers = slots; seats = seats; log = e ∷ h }} row (never_both may.going)
+      stands_behind stands AreKept {new = record old { places = places; keepers = slots; states = states; log = e ∷ h }} row (never_both may.going)
       (λ legal.
-      let rests = moved (assumption) (λ alone. never_both alone may.joins) legal shifts (known legal) rooms rows (assumption stands) in
+      let rests = moved (assumption) (λ alone. never_both alone may.joins) legal shifts (known legal) capacities rows (assumption stands) in
       record {
         places = rests.places;
         run = rests.run;
         kept = rests.kept;
-        rooms = rests.rooms;
+        capacities = rests.capacities;
         begun = rests.begun;
         keepers = one_keepers i old.keepers.items slots.items places (e ∷ h) one rests.keepers;
       })
@@ -265,21 +265,21 @@ keeper_there slots rows h i are joins = go (keeper_at slots i) (are.whose i)
     go None is = let no = is ∙ joins in cc
     go (Some k) is = tt
 
-module _ {P : Type 0} {told_by : P → Told} {old : Books P} {slots : Vec (Option Kept)} (i : ℕ) (stands : Stands told_by old) where
+module _ {P : Type 0} {observe : P → Observation} {old : EngineState P} {slots : Vec (Option Kept)} (i : ℕ) (stands : Stands observe old) where
   -- all that was taken was answered
   pub taken_made : (now : ℕ) → now ≡ lease_now old.log i → OneKeeper (AnswersTaken now) i old.keepers.items slots.items →
-      StandsMade told_by i (taken_in old.log i) (record old { keepers = slots })
+      StandsMade observe i (taken_in old.log i) (record old { keepers = slots })
   taken_made now moment one = made_one i (taken_in old.log i) stands one (λ was is answers kept. answers.made old.log i moment kept.keeps)
 
   -- a tick was answered where nothing was taken
   pub tick_made : (now : ℕ) → OneKeeper (Ticks now) i old.keepers.items slots.items → taken_in old.log i ≡ [] →
-      StandsMade told_by i (record { step = ticks now; copies = [] } ∷ []) (record old { keepers = slots })
+      StandsMade observe i (record { step = ticks now; copies = [] } ∷ []) (record old { keepers = slots })
   tick_made now one none = made_one i (record { step = ticks now; copies = [] } ∷ []) stands one
       (λ was is acts kept. acts.made old.log i [] (none_taken was old.log i kept.keeps acts.had none))
 
   -- and so was the flush
   pub flush_made : OneKeeper Flushes i old.keepers.items slots.items → taken_in old.log i ≡ [] →
-      StandsMade told_by i (flush ∷ []) (record old { keepers = slots })
+      StandsMade observe i (flush ∷ []) (record old { keepers = slots })
   flush_made one none = made_one i (flush ∷ []) stands one
       (λ was is flushes kept. flushes.made old.log i [] (none_taken was old.log i kept.keeps flushes.had none))
 
@@ -394,7 +394,7 @@ none_kept h i none (Some k) legal kept exact = go none (at h (Held i)) (exact h 
     go false [] same = let no = same.1 refl in cc
     go false (x ∷ xs) same = refl
 
-module _ {P : Type 0} {told_by : P → Told} {old : Books P} (slots : Vec (Option Kept)) (i stage : ℕ) (parcel : Parcel) {places : List Row} (stands : Stands told_by old)
+module _ {P : Type 0} {observe : P → Observation} {old : EngineState P} (slots : Vec (Option Kept)) (i stage : ℕ) (parcel : Parcel) {places : List Row} (stands : Stands observe old)
     (joins : joins_at old.log i ≡ true) (takes : Takes (Contents i stage) parcel old.places places) (one : OneKeeper (TakesIn parcel) i old.keepers.items slots.items) where
   are : numbers_of parcel.finalizers ≡ oldest (at old.log (Contents i stage))
   are = oldest_is stands (Contents i stage) takes.was
@@ -415,21 +415,21 @@ module _ {P : Type 0} {told_by : P → Told} {old : Books P} (slots : Vec (Optio
     | inr other ↦ rw (one.others j other) (stays_kept (keeper_at old.keepers.items j) old.log j takes_it legal (λ here. other (sym here)) (stands.keeps j))
   ]
 
-  pub kept_step : {seats : List (Seat P)} {log : Record} → MayTakeNow old.log i → first_filled old.log i ≡ Some stage → log ≡ takes_it ∷ old.log →
-      Shifts (Take i stage (numbers_of parcel.finalizers)) [] old.places places → Behind old.log takes_it (Knows told_by seats) →
-      length places ≡ length old.places → length seats ≡ length old.seats → SameRooms old.places places →
-      Steps told_by takes_it old (record old { places = places; keepers = slots; seats = seats; log = log })
-  kept_step may first noted shifts knows rows size rooms =
+  pub kept_step : {states : List (InstanceState P)} {log : Record} → MayTakeNow old.log i → first_filled old.log i ≡ Some stage → log ≡ takes_it ∷ old.log →
+      Shifts (Take i stage (numbers_of parcel.finalizers)) [] old.places places → Behind old.log takes_it (Knows observe states) →
+      length places ≡ length old.places → length states ≡ length old.states → SameCapacities old.places places →
+      Steps observe takes_it old (record old { places = places; keepers = slots; states = states; log = log })
+  kept_step may first noted shifts knows rows size capacities =
       let oldest_first = is_oldest stands (Contents i stage) takes.was in
       let unfilled : sink_at old.log i ≡ true → is_full_batch old.log i ≡ false = λ sink. absurd (joins_none (component_of old.log i) joins sink) in
       step stands (assumption (first, unfilled, may, rw are at oldest_first)) (never_both may.going) noted
       (λ legal.
-      let rests = moved (assumption) tt legal (rw are at shifts) (none_put (takes_it ∷ old.log)) rooms rows (assumption stands) in
+      let rests = moved (assumption) tt legal (rw are at shifts) (none_put (takes_it ∷ old.log)) capacities rows (assumption stands) in
       record {
         places = rests.places;
         run = rests.run;
         kept = rests.kept;
-        rooms = rests.rooms;
+        capacities = rests.capacities;
         begun = rests.begun;
         keepers = one_keepers i old.keepers.items slots.items places (takes_it ∷ old.log) one rests.keepers;
       })

@@ -6,7 +6,7 @@ use Rattle.std.proofs.lemmas.Bool.Decides.{nat_tests}
 use Rattle.std.proofs.lemmas.List.{length-map}
 use Rattle.vx_value.specs.Texts.{is_empty}
 use Rattle.vx_value.specs.declared.event.Event.{Event}
-use Rattle.vx_ends.specs.Told.{Told}
+use Rattle.vx_ends.specs.Observation.{Observation}
 use Rattle.vx_ends.specs.declared.position.Position.{Position}
 use Rattle.vx_ledger.specs.Copies.{Copy, each_alone, joined, numbers_of, renumbered}
 use Rattle.vx_ledger.specs.Ledger.{Ledger, IsShort}
@@ -31,14 +31,14 @@ use Rattle.vx_record.specs.Places.Place.{Outputs, Held}
 use Rattle.vx_record.specs.Sending.{IsOldest, MaySplit}
 use Rattle.vx_record.specs.Shifts.{at}
 use Rattle.vx_record.specs.SinkBatches.{is_full_batch}
-use Rattle.vx_record.specs.Sourcing.{must_wait, MayBear}
+use Rattle.vx_record.specs.Sourcing.{must_wait, MayCreateBatch}
 use Rattle.vx_record.specs.Spending.{oldest}
 use Rattle.vx_record.specs.Turns.{is_out}
 use Rattle.vx_record.proofs.FirstPort.{open_routes}
 use Rattle.vx_record.proofs.Steps.{length-children_of}
 use Rattle.vx_balance.specs.Balances.{HasHeld}
 use Rattle.vx_balance.specs.Owned.{IsOfBatch, AreOfBatch, EachOfBatch}
-use Rattle.vx_balance.specs.Promises.{Bears, IsAside, Routes, lists_of}
+use Rattle.vx_balance.specs.Promises.{CreatesBatch, IsAside, Routes, lists_of}
 use Rattle.vx_balance.proofs.Holding.{oldest_held}
 use Rattle.vx_balance.proofs.Owning.{length-counting, length-numbers}
 use Rattle.vx_balance.proofs.Steps.{aside_kept}
@@ -48,23 +48,23 @@ use Rattle.vx_places.specs.Calls.{Divides, HasHeldRoom, IsKept, IsThere, Moves, 
 use Rattle.vx_places.specs.Holding.{Holds, IsKnown, AreKnown}
 use Rattle.vx_places.specs.Looks.{HoldsMany}
 use Rattle.vx_places.specs.Numbers.{AreOn, noted, numbers, parcels_in, parcels_out, EachFilled, IsCopyIn}
-use Rattle.vx_places.specs.Rooms.{SameRooms, SameStageRooms, held_room}
+use Rattle.vx_places.specs.Capacities.{SameCapacities, SameStageCapacities, held_capacity}
 use Rattle.vx_places.specs.Views.{outputs_here, parcels_here, Others}
 use Rattle.vx_places.proofs.Making.{held_says}
 use Rattle.vx_places.proofs.Ports.{back_same, ports_there}
 use Rattle.vx_places.proofs.Recorded.{filled_there, many, none_waits_is}
 use Rattle.vx_places.proofs.Steps.{oldest_there}
 use Rattle.vx_places.proofs.Written.{each_place}
-use Rattle.vx_seats.specs.declared.seat.Seat.{Seat}
-use Rattle.vx_seats.specs.Knowing.{Knows}
-use Rattle.vx_seats.proofs.Aside.{aside_known}
-use Rattle.vx_moves.specs.declared.books.Books.{Books}
-use Rattle.vx_moves.specs.Bearing.{paired, HasBorne, MayBearNow}
-use Rattle.vx_moves.specs.Rooms.{AreRooms, IsHandOf}
+use Rattle.vx_instances.specs.declared.state.InstanceState.{InstanceState}
+use Rattle.vx_instances.specs.Knowing.{Knows}
+use Rattle.vx_instances.proofs.Aside.{aside_known}
+use Rattle.vx_moves.specs.declared.engine.EngineState.{EngineState}
+use Rattle.vx_moves.specs.Creating.{paired, HasCreatedBatch, MayCreateBatchNow}
+use Rattle.vx_moves.specs.Capacities.{AreCapacities, IsHeldLimitOf}
 use Rattle.vx_moves.specs.Splitting.{HasSplit, IsSplitShort, oldest_readers}
 use Rattle.vx_tasks.specs.Joining.{joins_at}
 use Rattle.vx_moves.specs.Keepers.{StandApart, AreKeepers, SparesKept}
-use Rattle.vx_moves.specs.Stands.{Stands, Steps, KeptAtHome}
+use Rattle.vx_moves.specs.Stands.{Stands, Steps, KeptUnleased}
 use Rattle.vx_moves.proofs.Outlets.{outlets_read}
 use Rattle.vx_moves.proofs.Stepping.{Behind, IsOfPart, moved_step, never_both, none_put, same_stands}
 
@@ -76,23 +76,23 @@ seen_kept rows i there is = go (parcels_here rows (Held i)) refl is
     go None seen is = absurd cc
     go (Some parcels) seen is = (held_says rows i there).0 parcels seen
 
--- where what an instance holds is lent or comes back, and nothing else changes, the books stand for what they stood for
-pub hand_stands : {P : Type 0} {told_by : P → Told} {old : Books P} {places : List Row} (i : ℕ) → Stands told_by old → joins_at old.log i ≡ false →
+-- where what an instance holds is lent or comes back, and nothing else changes, the engine's state stands for what it stood for
+pub held_stands : {P : Type 0} {observe : P → Observation} {old : EngineState P} {places : List Row} (i : ℕ) → Stands observe old → joins_at old.log i ≡ false →
     Holds places old.log → Others (Held i) old.places places →
-    (is_out old.log i ≡ false → IsSome (parcels_here places (Held i))) → SameStageRooms old.places places →
-    ((j : ℕ) → j ≢ i → held_room places j ≡ held_room old.places j) →
-    IfSome (held_room places i) (IsHandOf old.log i) → length places ≡ length old.places → Stands told_by (record old { places = places })
-hand_stands {old = old} {places = places} i stood alone holds others here stages hands hand rows =
+    (is_out old.log i ≡ false → IsSome (parcels_here places (Held i))) → SameStageCapacities old.places places →
+    ((j : ℕ) → j ≢ i → held_capacity places j ≡ held_capacity old.places j) →
+    IfSome (held_capacity places i) (IsHeldLimitOf old.log i) → length places ≡ length old.places → Stands observe (record old { places = places })
+held_stands {old = old} {places = places} i stood alone holds others here stages holdings held_limit rows =
     let seen = each_place (Held i) (λ p. is_out old.log (owner p) ≡ false → IsSome (parcels_here old.places p) → IsSome (parcels_here places p))
-    (λ home _. here home) (λ p other _ is. rw (others p other) is) in
-    let kept : KeptAtHome places old.log = λ j home merges. seen (Held j) home (stood.kept j home merges) in
+    (λ unleased _. here unleased) (λ p other _ is. rw (others p other) is) in
+    let kept : KeptUnleased places old.log = λ j unleased merges. seen (Held j) unleased (stood.kept j unleased merges) in
     let unseen = each_place (Held i) (λ p. joins_at old.log (owner p) ≡ true → parcels_here old.places p ≡ None → parcels_here places p ≡ None)
     (λ joins none. never_both alone joins) (λ p other joins none. others p other ∙ none) in
     let apart : StandApart places old.log = λ j joins. unseen (Held j) joins (stood.keepers.apart j joins) in
     let keepers : AreKeepers old.keepers.items places old.log = record { many = stood.keepers.many ∙ sym rows; whose = stood.keepers.whose; apart = apart } in
-    let rooms : AreRooms places old.log = record {
-      stages = λ j. stages j ∙ stood.rooms.stages j;
-      hands = λ j. elim (cases_eq j i) [ inl same ↦ rw same hand | inr other ↦ rw (hands j other) (stood.rooms.hands j) ];
+    let capacities : AreCapacities places old.log = record {
+      stages = λ j. stages j ∙ stood.capacities.stages j;
+      holdings = λ j. elim (cases_eq j i) [ inl same ↦ rw same held_limit | inr other ↦ rw (holdings j other) (stood.capacities.holdings j) ];
     } in
     assumption (holds, rows ∙ stood.size, stood)
 
@@ -107,7 +107,7 @@ said_first : (h : Record) (event : Event) (copies : List Copy) → copies ≢ []
 said_first h event [] some known = absurd (some refl)
 said_first h event (c ∷ cs) some known = sym (known c (inl refl)).said
 
-module _ {P : Type 0} {told_by : P → Told} {old : Books P} (stood : Stands told_by old) (p : Place) {parcel : Parcel} {rest : List Parcel}
+module _ {P : Type 0} {observe : P → Observation} {old : EngineState P} (stood : Stands observe old) (p : Place) {parcel : Parcel} {rest : List Parcel}
     (seen : parcels_here old.places p ≡ Some (parcel ∷ rest)) where
   -- it has the copies of the record's oldest there
   pub oldest_is : numbers_of parcel.finalizers ≡ oldest (at old.log p)
@@ -129,15 +129,15 @@ module _ {P : Type 0} {told_by : P → Told} {old : Books P} (stood : Stands tol
   first_held = record { known = old.log; balances = stood.balance; held = oldest_held old.log p parcel.finalizers stood.legal is_oldest first_of_batch }
 
 -- it goes to another place
-module _ {P : Type 0} {told_by : P → Told} {old : Books P} {entry : List ℕ → Entry} {from to : Place} {places : List Row} (stood : Stands told_by old)
+module _ {P : Type 0} {observe : P → Observation} {old : EngineState P} {entry : List ℕ → Entry} {from to : Place} {places : List Row} (stood : Stands observe old)
     (moves : Moves entry from to old.places places) where
   abbrev move : Entry
   move = entry (oldest (at old.log from))
 
-  pub moves_step : {seats : List (Seat P)} {log : Record} → IsOfPart move → LeavesBegun (joins_at old.log) old.log move → SparesKept old.log move → IsAside move →
+  pub moves_step : {states : List (InstanceState P)} {log : Record} → IsOfPart move → LeavesBegun (joins_at old.log) old.log move → SparesKept old.log move → IsAside move →
       (IsOldest (oldest (at old.log from)) (parcels_at from (stands old.log)) → Allows old.log move) → MayStillCome old.log move → log ≡ move ∷ old.log →
-      Behind old.log move (Knows told_by seats) → length places ≡ length old.places → length seats ≡ length old.seats → SameRooms old.places places →
-      Steps told_by move old (record old { places = places; seats = seats; log = log })
+      Behind old.log move (Knows observe states) → length places ≡ length old.places → length states ≡ length old.states → SameCapacities old.places places →
+      Steps observe move old (record old { places = places; states = states; log = log })
   moves_step part leaves spares aside row left noted knows =
       let are = oldest_is stood from moves.taken.was in
       let first : IsOldest (oldest (at old.log from)) (parcels_at from (stands old.log)) = rw are at (is_oldest stood from moves.taken.was) in
@@ -146,15 +146,15 @@ module _ {P : Type 0} {told_by : P → Told} {old : Books P} {entry : List ℕ �
 
 -- WHAT IS HELD
 -- where fewer are held than a batch may have, it isn't full
-below_full : (h : Record) (i room : ℕ) → length (held h i) < room → IsHandOf h i room → sink_at h i ≡ true → is_full_batch h i ≡ false
-below_full h i room below hand sink = grind (arith, nat_tests, below, hand, sink)
+below_full : (h : Record) (i room : ℕ) → length (held h i) < room → IsHeldLimitOf h i room → sink_at h i ≡ true → is_full_batch h i ≡ false
+below_full h i room below held_limit sink = grind (arith, nat_tests, below, held_limit, sink)
 
 -- a sink that has room for one more parcel holds no full batch
-pub unfull : (h : Record) (rows : List Row) (i : ℕ) → IsLegal h → Holds rows h → AreRooms rows h → HasHeldRoom rows i → sink_at h i ≡ true →
+pub unfull : (h : Record) (rows : List Row) (i : ℕ) → IsLegal h → Holds rows h → AreCapacities rows h → HasHeldRoom rows i → sink_at h i ≡ true →
     is_full_batch h i ≡ false
-unfull h rows i legal holds rooms room = go (parcels_here rows (Held i)) (held_room rows i) refl (rooms.hands i) room
+unfull h rows i legal holds capacities room = go (parcels_here rows (Held i)) (held_capacity rows i) refl (capacities.holdings i) room
   where
-    go : (o : Option (List Parcel)) (r : Option ℕ) → parcels_here rows (Held i) ≡ o → IfSome r (IsHandOf h i) →
+    go : (o : Option (List Parcel)) (r : Option ℕ) → parcels_here rows (Held i) ≡ o → IfSome r (IsHeldLimitOf h i) →
         IsSomeAnd o (λ parcels. IsSomeAnd r (λ room. length parcels < room)) →
         sink_at h i ≡ true → is_full_batch h i ≡ false
     go None r seen planned below = absurd below
@@ -210,11 +210,11 @@ some_targets [] some = absurd (some refl)
 some_targets (t ∷ ts) some = omega arith
 
 -- the targets of some ports are their readers
-pub targets_are : {P : Type 0} (told_by : P → Told) (seats : List (Seat P)) (h : Record) (i : ℕ) (seat : Seat P) → Knows told_by seats h →
-    slice_get seats i ≡ Some seat → (ports : ℕ) → ports < 2 ^ 128 → targets_of ports seat.outlet ≡ readers_on h i (port_list ports)
-targets_are told_by seats h i seat knows is ports fits = let known = rw is at (knows.each i) in ap (targets_of ports) known.fitted.outlet ∙ outlets_read h i ports fits
+pub targets_are : {P : Type 0} (observe : P → Observation) (states : List (InstanceState P)) (h : Record) (i : ℕ) (state : InstanceState P) → Knows observe states h →
+    slice_get states i ≡ Some state → (ports : ℕ) → ports < 2 ^ 128 → targets_of ports state.outlet ≡ readers_on h i (port_list ports)
+targets_are observe states h i state knows is ports fits = let known = rw is at (knows.each i) in ap (targets_of ports) known.fitted.outlet ∙ outlets_read h i ports fits
 
-module _ {P : Type 0} {told_by : P → Told} {old : Books P} {i : ℕ} {output : Output} {mid : List Row} (stood : Stands told_by old)
+module _ {P : Type 0} {observe : P → Observation} {old : EngineState P} {i : ℕ} {output : Output} {mid : List Row} (stood : Stands observe old)
     (taken : Takes (Outputs i) output.parcel old.places mid) (first_out : TakesOutput i output old.places mid) where
   abbrev parcel : Parcel
   parcel = output.parcel
@@ -234,17 +234,17 @@ module _ {P : Type 0} {told_by : P → Told} {old : Books P} {i : ℕ} {output :
 
   -- it is put back
   pub put_back_stands : {back : Output} {places : List Row} {balance : Ledger} → Takes (Outputs i) back.parcel places mid → TakesOutput i back places mid → back ≡ output → balance ≡ old.balance →
-      length places ≡ length old.places → SameRooms old.places places → Stands told_by (record old { places = places; balance = balance })
+      length places ≡ length old.places → SameCapacities old.places places → Stands observe (record old { places = places; balance = balance })
   put_back_stands {places = places} back back_out same unmoved rows =
-      same_stands stood (back_same i output old.places mid places taken first_out (rw same at back) (rw same at back_out)) stood.seats unmoved rows refl
+      same_stands stood (back_same i output old.places mid places taken first_out (rw same at back) (rw same at back_out)) stood.states unmoved rows refl
 
   -- it is split
   pub split_step : {children : List Child} {places : List Row} {balance : Ledger} {log : Record} → abandoned old.log ≡ false →
       is_out old.log i ≡ false → IsThere old.places i →
       NoneWaits old.places i → Routes (oldest_readers old.log i) parcel children old.balance balance → (oldest_readers old.log i ≡ [] → ⊥) → Divides i children mid places →
-      length places ≡ length old.places → SameRooms old.places places → log ≡ Split i output.ports (numbers_of parcel.finalizers) parcel.event (noted children) ∷ old.log →
-      HasSplit told_by i old (record old { places = places; balance = balance; log = log })
-  split_step {children} {places} {balance} {log} going home there none routed some divides rows rooms noted_so =
+      length places ≡ length old.places → SameCapacities old.places places → log ≡ Split i output.ports (numbers_of parcel.finalizers) parcel.event (noted children) ∷ old.log →
+      HasSplit observe i old (record old { places = places; balance = balance; log = log })
+  split_step {children} {places} {balance} {log} going unleased there none routed some divides rows capacities noted_so =
       let h = old.log in
       let targets = oldest_readers h i in
       let ports = output.ports in
@@ -259,7 +259,7 @@ module _ {P : Type 0} {told_by : P → Told} {old : Books P} {i : ℕ} {output :
       let of_batch = first_of_batch stood (Outputs i) taken.was in
       let row : MaySplit h i ports copies parcel.event (noted children) = record {
         split = record {
-          home = home;
+          unleased = unleased;
           none_waits = (none_waits_is h old.places i there stood.legal stood.places).0 none;
           oldest = first;
           on_ports = on_so;
@@ -269,14 +269,14 @@ module _ {P : Type 0} {told_by : P → Told} {old : Books P} {i : ℕ} {output :
         };
         fits = rw (← stood.balance.next, many, size) routed.splits.fits;
       } in
-      let steps : Steps told_by e old (record old { places = places; balance = balance; log = log }) =
+      let steps : Steps observe e old (record old { places = places; balance = balance; log = log }) =
       moved_step stood (assumption) tt (λ j joins. tt) row (never_both going) noted_so
       (divides.split old.places parcel ports parcel.event taken (rw routed.made (each_filled targets next parcel filled)))
       (λ legal. rw routed.made (children_known _ (next_copy h) parcel targets next (omega (arith, stood.balance.next))
       (λ c above. said_after c (next_copy h) (event_of h c) parcel.event above)
       (rw routed.made at (routed.splits.of_batch h i ports parcel.event (noted children) many of_batch legal stood.balance))))
-      (λ legal. aside_known told_by e h old.seats tt legal stood.seats)
-      (λ legal. routed.splits.carries h i ports parcel.event (noted children) many of_batch legal stood.balance) rows refl rooms in
+      (λ legal. aside_known observe e h old.states tt legal stood.states)
+      (λ legal. routed.splits.carries h i ports parcel.event (noted children) many of_batch legal stood.balance) rows refl capacities in
       record { ports = ports; event = parcel.event; children = noted children; steps = rw (oldest_is stood (Outputs i) taken.was) at steps }
 
 -- A BIRTH
@@ -314,47 +314,47 @@ said_born : (h : Record) (i n d : ℕ) (copies : List ℕ) (events : List Event)
 said_born h i n d copies events waits stream end =
     let back : next_copy h + d - next_copy h ≡ d = omega arith in rw back (grind (arith, nat_tests))
 
-module _ {i n b : ℕ} {lists : List (List Copy)} {old new : Ledger} (bears : Bears i n b (joined lists) old new) (each : lists ≡ each_alone (joined lists)) where
+module _ {i n b : ℕ} {lists : List (List Copy)} {old new : Ledger} (creates : CreatesBatch i n b (joined lists) old new) (each : lists ≡ each_alone (joined lists)) where
   many_copies : length (joined lists) ≡ n
-  many_copies = sym (length-numbers (joined lists)) ∙ ap length bears.numbers ∙ length-counting old.next n
+  many_copies = sym (length-numbers (joined lists)) ∙ ap length creates.numbers ∙ length-counting old.next n
 
   -- there are as many copies as were asked for
   pub many_born : n ≡ length lists
   many_born = sym (ap length each ∙ length-map (joined lists) (λ (c : Copy). c ∷ []) ∙ many_copies)
 
-pub birth_step : {P : Type 0} {told_by : P → Told} {old : Books P} {i b : ℕ} {position : Position} {events : List Event}
+pub birth_step : {P : Type 0} {observe : P → Observation} {old : EngineState P} {i b : ℕ} {position : Position} {events : List Event}
     {lists : List (List Copy)} {places : List Row}
-    {seats : List (Seat P)} {balance : Ledger} {log : Record} → Stands told_by old → MayBearNow old.log i position events →
-    Bears i (length events) b (joined lists) old.balance balance →
+    {states : List (InstanceState P)} {balance : Ledger} {log : Record} → Stands observe old → MayCreateBatchNow old.log i position events →
+    CreatesBatch i (length events) b (joined lists) old.balance balance →
     lists ≡ each_alone (joined lists) → PutsOut i (paired events lists) old.places places →
     let next = next_copy old.log in
     let copies = counting next (length events) in
     log ≡ Born i next next copies events (must_wait old.log i) position.stream position.end ∷ old.log →
-    Behind old.log (Born i b next copies events (must_wait old.log i) position.stream position.end) (Knows told_by seats) → length places ≡ length old.places →
-    length seats ≡ length old.seats → SameRooms old.places places →
-    HasBorne told_by i position events old (record old { places = places; seats = seats; balance = balance; log = log })
-birth_step {old = old} {i = i} {b = b} {position = position} {events = events} {lists = lists} stood may bears each puts noted knows rows size rooms =
+    Behind old.log (Born i b next copies events (must_wait old.log i) position.stream position.end) (Knows observe states) → length places ≡ length old.places →
+    length states ≡ length old.states → SameCapacities old.places places →
+    HasCreatedBatch observe i position events old (record old { places = places; states = states; balance = balance; log = log })
+birth_step {old = old} {i = i} {b = b} {position = position} {events = events} {lists = lists} stood may creates each puts noted knows rows size capacities =
     let h = old.log in
     let next = next_copy h in
     let copies = counting next (length events) in
     let waits = must_wait h i in
     let e = Born i next next copies events waits position.stream position.end in
-    let number : b ≡ next = bears.number ∙ stood.balance.next in
-    let are : numbers_of (joined lists) ≡ copies = rw stood.balance.next at bears.numbers in
-    let many = many_copies bears each in
+    let number : b ≡ next = creates.number ∙ stood.balance.next in
+    let are : numbers_of (joined lists) ≡ copies = rw stood.balance.next at creates.numbers in
+    let many = many_copies creates each in
     let long = length-counting next (length events) in
-    let row : MayBear h i next copies events waits position.stream position.end = record {
+    let row : MayCreateBatch h i next copies events waits position.stream position.end = record {
       yields = may.yields;
       some = rw long may.some;
       one_each = long;
       next = ap (counting next) (sym long);
       number = refl;
       waiting = refl;
-      fits = rw (long, ← stood.balance.next) bears.fits;
+      fits = rw (long, ← stood.balance.next) creates.fits;
     } in
     moved_step stood (assumption) tt (λ j joins. tt) row (never_both may.going) noted
     (puts.born next next copies events waits position.stream position.end (rw each (numbers_paired events (joined lists) (sym many) ∙ ap singles are)) (on_paired events lists))
     (λ legal. rw each (paired_known (e ∷ h) next events (joined lists)
-    ((rw (number, are) at (bears.of_batch h next events waits position.stream position.end)) legal)
+    ((rw (number, are) at (creates.of_batch h next events waits position.stream position.end)) legal)
     (are ∙ ap (counting next) (sym many)) (λ d. said_born h i next d copies events waits position.stream position.end)))
-    (rw number at knows) (λ legal. (rw (number, are) at (bears.carries h next events waits position.stream position.end)) legal stood.balance) rows size rooms
+    (rw number at knows) (λ legal. (rw (number, are) at (creates.carries h next events waits position.stream position.end)) legal stood.balance) rows size capacities

@@ -4,7 +4,7 @@ use Rattle.std.specs.Prelude.{◌==◌, if◌then◌else◌, map, filter, slice_
 use Rattle.std.specs.Int.{bit_at}
 use Rattle.std.proofs.lemmas.List.{length-map}
 use Rattle.std.proofs.lemmas.Nat.Bits.{bit_at_above}
-use Rattle.vx_value.specs.Texts.{Word}
+use Rattle.vx_value.specs.Texts.{ByteString}
 use Rattle.vx_ledger.specs.Routing.{named, targets_from, targets_of}
 use Rattle.vx_plan.specs.declared.component.Component.{Component}
 use Rattle.vx_plan.specs.Components.{component_named, port_names}
@@ -15,7 +15,7 @@ use Rattle.vx_record.specs.Copies.{counting, joined}
 use Rattle.vx_record.specs.Installs.{Wiring, wiring, numbers_of}
 use Rattle.vx_record.specs.Parcels.{port_list}
 use Rattle.vx_record.specs.Routing.{wired_targets}
-use Rattle.vx_seats.specs.Knowing.{outlets_at, wired_outlets}
+use Rattle.vx_instances.specs.Knowing.{outlets_at, wired_outlets}
 
 -- whether a set of ports has one
 abbrev has : ℕ → ℕ → Bool
@@ -70,8 +70,8 @@ wired_read : (w : Wiring) (ports : ℕ) → ports < 2 ^ 128 → targets_of ports
 wired_read w ports fits = go (component_named w.plan w.name) refl
   where
     targets_by : (p : ℕ) (o : Option Component) → component_named w.plan w.name ≡ o →
-        wired_targets p w ≡ joined (map (numbers_of w.instances) (slice_index_or (elim o as (λ _. List (List Word)) [ None ↦ [] | Some c ↦ map (readers w.plan w.name) (port_names c) ]) p []))
-    targets_by p o is = ap (λ (x : Option Component). joined (map (numbers_of w.instances) (slice_index_or (elim x as (λ _. List (List Word)) [ None ↦ [] | Some c ↦ map (readers w.plan w.name) (port_names c) ]) p []))) is
+        wired_targets p w ≡ joined (map (numbers_of w.instances) (slice_index_or (elim o as (λ _. List (List ByteString)) [ None ↦ [] | Some c ↦ map (readers w.plan w.name) (port_names c) ]) p []))
+    targets_by p o is = ap (λ (x : Option Component). joined (map (numbers_of w.instances) (slice_index_or (elim x as (λ _. List (List ByteString)) [ None ↦ [] | Some c ↦ map (readers w.plan w.name) (port_names c) ]) p []))) is
 
     go : (o : Option Component) → component_named w.plan w.name ≡ o →
         targets_of ports (map (λ port. wired_targets port w) (elim o as (λ _. List ℕ) [ None ↦ [] | Some c ↦ counting 0 (length (port_names c)) ]))
@@ -79,7 +79,7 @@ wired_read w ports fits = go (component_named w.plan w.name) refl
     go None is = on_ports (λ port. wired_targets port w) ports 0 (λ p l. targets_by p None is) fits
     go (Some c) is = on_ports (λ port. wired_targets port w) ports (length (port_names c))
         (λ p l. targets_by p (Some c) is
-        ∙ ap (λ (names : List Word). joined (map (numbers_of w.instances) names))
+        ∙ ap (λ (names : List ByteString). joined (map (numbers_of w.instances) names))
         (beyond (map (readers w.plan w.name) (port_names c)) p (let same = length-map (port_names c) (readers w.plan w.name) in omega (arith, l, same)))) fits
 
 pub outlets_read : (h : Record) (i ports : ℕ) → ports < 2 ^ 128 → targets_of ports (outlets_at h i) ≡ readers_on h i (port_list ports)

@@ -3,7 +3,7 @@ use Rattle.std.proofs.Common.{subst, ◌≡◌, ◌∙◌, ℕ, ◌+◌, ◌<◌
 use Rattle.std.specs.Prelude.{◌==◌, if◌then◌else◌, IsSomeAnd}
 use Rattle.std.proofs.lemmas.Bool.Decides.{nat_tests}
 use Rattle.std.proofs.lemmas.List.{append-nil, map-append, length-append}
-use Rattle.vx_ends.specs.Told.{Told}
+use Rattle.vx_ends.specs.Observation.{Observation}
 use Rattle.vx_value.specs.Texts.{is_empty}
 use Rattle.vx_value.specs.declared.event.Event.{Event}
 use Rattle.vx_status.specs.declared.outcome.Outcome.{Outcome}
@@ -28,7 +28,7 @@ use Rattle.vx_record.specs.Tallies.{is_first, is_newest, is_unread}
 use Rattle.vx_record.specs.Turns.{is_out}
 use Rattle.vx_record.proofs.Adding.{adds_both, adds_none, adds_one}
 use Rattle.vx_record.proofs.Counts.{count-append}
-use Rattle.vx_record.proofs.Hands.{AreAt, not_there, others_stay}
+use Rattle.vx_record.proofs.HeldCopies.{AreAt, not_there, others_stay}
 use Rattle.vx_record.proofs.OnePlace.{conserved}
 use Rattle.vx_record.proofs.Shifting.{stands_at}
 use Rattle.vx_balance.specs.Owned.{IsOfBatch}
@@ -42,21 +42,21 @@ use Rattle.vx_places.specs.Calls.{IsOldestFor, NoneBefore, HasSome, Loses, Nothi
 use Rattle.vx_places.specs.Holding.{Holds}
 use Rattle.vx_places.specs.Looks.{IsFirstFilled}
 use Rattle.vx_places.specs.Numbers.{numbers, for_target, IsCopyIn}
-use Rattle.vx_places.specs.Rooms.{SameRooms}
+use Rattle.vx_places.specs.Capacities.{SameCapacities}
 use Rattle.vx_places.specs.Views.{parcels_here, row_at, here_if}
 use Rattle.vx_places.proofs.Looking.{oldest_for, some_for}
 use Rattle.vx_places.proofs.Recorded.{filled_there, some_is, stands_there}
 use Rattle.vx_places.proofs.Spending.{spent_shifts}
 use Rattle.vx_places.proofs.Steps.{still_shifts}
 use Rattle.vx_places.proofs.Written.{each_place}
-use Rattle.vx_seats.specs.declared.seat.Seat.{Seat}
-use Rattle.vx_seats.specs.Knowing.{Knows}
-use Rattle.vx_seats.specs.Staying.{EachSeat, Stays}
-use Rattle.vx_seats.proofs.Aside.{given_up_known}
-use Rattle.vx_moves.specs.declared.books.Books.{Books}
+use Rattle.vx_instances.specs.declared.state.InstanceState.{InstanceState}
+use Rattle.vx_instances.specs.Knowing.{Knows}
+use Rattle.vx_instances.specs.Staying.{EachState, Stays}
+use Rattle.vx_instances.proofs.Aside.{given_up_known}
+use Rattle.vx_moves.specs.declared.engine.EngineState.{EngineState}
 use Rattle.vx_moves.specs.Spends.{IsSpendOf, MaySpendAll, MaySpendFrom, IsNotedAs, IsSettled, HasSpent, OnlySpends, unspent}
 use Rattle.vx_moves.specs.Stands.{Stands}
-use Rattle.vx_moves.proofs.Leaving.{rooms_both, each_both}
+use Rattle.vx_moves.proofs.Leaving.{capacities_both, each_both}
 use Rattle.vx_moves.specs.Keepers.{AreKept, SparesKept}
 use Rattle.vx_moves.proofs.Keepers.{kept_behind, place_alone}
 use Rattle.vx_moves.proofs.Stepping.{Rests, follows, keeps_behind, moved, none_put}
@@ -161,7 +161,7 @@ empty_numbers : (cs : List Copy) → is_empty (numbers_of cs) ≡ is_empty cs
 empty_numbers [] = refl
 empty_numbers (c ∷ cs) = refl
 
-module _ {P : Type 0} {told_by : P → Told} {old : Books P} {p : Place} {copy : Copy} {last : Bool} {rows : List Row} (stood : Stands told_by old)
+module _ {P : Type 0} {observe : P → Observation} {old : EngineState P} {p : Place} {copy : Copy} {last : Bool} {rows : List Row} (stood : Stands observe old)
     (loses : Loses p copy last old.places rows) where
   had : (numbers_of loses.loses.left ++ copy.number ∷ []) ∷ numbers loses.loses.rest ≡ at old.log p
   had =
@@ -189,13 +189,13 @@ module _ {P : Type 0} {told_by : P → Told} {old : Books P} {p : Place} {copy :
   put_so = subst (WasPutAs old.log p copy.number) alone (last_is_first old.log p (numbers_of loses.loses.left) copy.number stood.legal is_begun)
 
 -- so it is of what an instance took
-pub taken_so : {P : Type 0} {told_by : P → Told} {old : Books P} {i : ℕ} {copy : Copy} {last : Bool} {rows : List Row} (stood : Stands told_by old)
+pub taken_so : {P : Type 0} {observe : P → Observation} {old : EngineState P} {i : ℕ} {copy : Copy} {last : Bool} {rows : List Row} (stood : Stands observe old)
     (loses : Loses (Held i) copy last old.places rows) → last ≡ is_first old.log i copy.number
 taken_so {old = old} {i = i} {copy = copy} stood loses =
     sym (alone stood loses) ∙ last_taken_first old.log i (numbers_of loses.loses.left) copy.number stood.legal (is_begun stood loses)
 
-module _ {P : Type 0} {told_by : P → Told} {old : Books P} {p : Place} {outcome : Outcome} {copy : Copy} {last : Bool} {rows : List Row}
-    (stood : Stands told_by old) (may : MaySpendFrom old.log p outcome) (loses : Loses p copy last old.places rows) where
+module _ {P : Type 0} {observe : P → Observation} {old : EngineState P} {p : Place} {outcome : Outcome} {copy : Copy} {last : Bool} {rows : List Row}
+    (stood : Stands observe old) (may : MaySpendFrom old.log p outcome) (loses : Loses p copy last old.places rows) where
   pub spendable : IsSpendable old.log p outcome copy
   spendable =
       let among : 0 < count copy.number (oldest (at old.log p)) = rw (← (had stood loses)) (grind (arith, nat_tests, count-append)) in
@@ -226,10 +226,10 @@ module _ {P : Type 0} {told_by : P → Told} {old : Books P} {p : Place} {outcom
       unheld q other =
           rw (stands_at old.log q stood.legal) at (not_there old.log p q copy.number (conserved old.log stood.legal) other (rw (← (stands_at old.log p stood.legal)) at spendable.there))
 
-  -- the law of spends: where such a copy is gone, and its spend is settled, the books stand
-  pub spent_step : {log : Record} {account : Ledger} {seats : List (Seat P)} → IsSettled told_by (Spent (owner p) copy.number outcome) old.log log account seats →
-      length rows ≡ length old.places → SameRooms old.places rows → length seats ≡ length old.seats → EachSeat Stays old.seats seats →
-      HasSpent told_by p outcome old (record old { places = rows; seats = seats; balance = account; log = log })
+  -- the law of spends: where such a copy is gone, and its spend is settled, the engine's state stands
+  pub spent_step : {log : Record} {account : Ledger} {states : List (InstanceState P)} → IsSettled observe (Spent (owner p) copy.number outcome) old.log log account states →
+      length rows ≡ length old.places → SameCapacities old.places rows → length states ≡ length old.states → EachState Stays old.states states →
+      HasSpent observe p outcome old (record old { places = rows; states = states; balance = account; log = log })
   spent_step {log} settled many same size stay =
       let h = old.log in
       let e = Spent (owner p) copy.number outcome in
@@ -259,25 +259,25 @@ module _ {P : Type 0} {told_by : P → Told} {old : Books P} {p : Place} {outcom
         fewer = rw (now, ← (had stood loses)) (omega (arith, length-append {A = ℕ}));
         left = behind (λ k. unspent k + 1 ≡ unspent h) fell (λ b status. omega (arith, fell, notice_keeps (e ∷ h) b status)) settled.noted;
         others = λ q other. behind (λ k. at k q ≡ at h q) (others_now q other) (λ b status. others_now q other) settled.noted;
-        leaves = record { seats = stay; rooms = same; run = refl };
+        leaves = record { states = stay; capacities = same; run = refl };
         size = size;
       }
 
 -- WHERE THE RUN IS GIVEN UP
--- what stands at an instance at home may be given up
+-- what stands at an unleased instance may be given up
 pub may_give_up : (h : Record) (p : Place) → abandoned h ≡ true → is_out h (owner p) ≡ false → MaySpendFrom h p Abandoned
-may_give_up h p over home = record { cause = λ c among. (over, home); left = λ c given. refl }
+may_give_up h p over unleased = record { cause = λ c among. (over, unleased); left = λ c given. refl }
 
 pub may_give_up_held : (h : Record) (i : ℕ) → abandoned h ≡ true → is_out h i ≡ false → MaySpendAll h (Held i) Abandoned
-may_give_up_held h i over home = record { cause = λ c among. (over, home); left = λ c given. refl }
+may_give_up_held h i over unleased = record { cause = λ c among. (over, unleased); left = λ c given. refl }
 
--- and the seats know of it, where it isn't held
-pub given_up : {P : Type 0} {told_by : P → Told} {h : Record} {p : Place} {copy : Copy} {seats : List (Seat P)} → IsSpendable h p Abandoned copy →
-    same_place p (Held (owner p)) ≡ false → Knows told_by seats h → Knows told_by seats (Spent (owner p) copy.number Abandoned ∷ h)
-given_up {told_by = told_by} {h = h} {p = p} {copy = copy} {seats = seats} is apart =
+-- and the states know of it, where it isn't held
+pub given_up : {P : Type 0} {observe : P → Observation} {h : Record} {p : Place} {copy : Copy} {states : List (InstanceState P)} → IsSpendable h p Abandoned copy →
+    same_place p (Held (owner p)) ≡ false → Knows observe states h → Knows observe states (Spent (owner p) copy.number Abandoned ∷ h)
+given_up {observe = observe} {h = h} {p = p} {copy = copy} {states = states} is apart =
     let there = rw (← (stands_at h p is.legal.1)) at is.there in
     let unheld = rw (stands_at h (Held (owner p)) is.legal.1) at (not_there h p (Held (owner p)) copy.number (conserved h is.legal.1) apart there) in
-    given_up_known told_by h (owner p) copy.number seats unheld is.legal
+    given_up_known observe h (owner p) copy.number states unheld is.legal
 
 -- MANY SPENDS
 -- what is held keeps its cause
@@ -291,8 +291,8 @@ cause_kept i c outcome legal here noted cause = behind (λ k. HasCause k i c out
 pub may_spend_one : (h : Record) (p : Place) (outcome : Outcome) → MaySpendAll h p outcome → MaySpendFrom h p outcome
 may_spend_one h p outcome may = record { cause = λ c among. may.cause c (oldest_there c (at h p) among); left = may.left }
 
-pub may_spend_more : {P : Type 0} {told_by : P → Told} {old new : Books P} (i : ℕ) (outcome : Outcome) → IsLegal old.log → MaySpendAll old.log (Held i) outcome →
-    HasSpent told_by (Held i) outcome old new → MaySpendAll new.log (Held i) outcome
+pub may_spend_more : {P : Type 0} {observe : P → Observation} {old new : EngineState P} (i : ℕ) (outcome : Outcome) → IsLegal old.log → MaySpendAll old.log (Held i) outcome →
+    HasSpent observe (Held i) outcome old new → MaySpendAll new.log (Held i) outcome
 may_spend_more {old = old} i outcome legal may spent = record {
   cause = λ c l.
       let before : 0 < count c (joined (at old.log (Held i))) = omega (arith, l, spent.lost c) in
@@ -300,24 +300,24 @@ may_spend_more {old = old} i outcome legal may spent = record {
   left = λ c. behind (λ k. abandoned k ≡ true → gives_up outcome ≡ true) (may.left c) (λ b status. may.left c) spent.noted;
 }
 
-module _ {P : Type 0} {told_by : P → Told} {old mid new : Books P} where
-  pub spends_both : {i : ℕ} {outcome : Outcome} → OnlySpends told_by i outcome old mid → OnlySpends told_by i outcome mid new → OnlySpends told_by i outcome old new
+module _ {P : Type 0} {observe : P → Observation} {old mid new : EngineState P} where
+  pub spends_both : {i : ℕ} {outcome : Outcome} → OnlySpends observe i outcome old mid → OnlySpends observe i outcome mid new → OnlySpends observe i outcome old new
   spends_both {i} {outcome} first second = record {
     only = adds_both (IsSpendOf i outcome) old.log mid.log new.log first.only second.only;
     stands = second.stands;
     empty = λ q none. second.empty q (first.empty q none);
     others = λ q other. second.others q other ∙ first.others q other;
     leaves = record {
-      seats = each_both old.seats mid.seats new.seats first.leaves.seats second.leaves.seats;
-      rooms = rooms_both old.places mid.places new.places first.leaves.rooms second.leaves.rooms;
+      states = each_both old.states mid.states new.states first.leaves.states second.leaves.states;
+      capacities = capacities_both old.places mid.places new.places first.leaves.capacities second.leaves.capacities;
       run = second.leaves.run ∙ first.leaves.run;
     };
     size = second.size ∙ first.size;
   }
 
   -- one more
-  pub spends_more : (p : Place) {outcome : Outcome} → OnlySpends told_by (owner p) outcome old mid → HasSpent told_by p outcome mid new →
-      OnlySpends told_by (owner p) outcome old new
+  pub spends_more : (p : Place) {outcome : Outcome} → OnlySpends observe (owner p) outcome old mid → HasSpent observe p outcome mid new →
+      OnlySpends observe (owner p) outcome old new
   spends_more p before spent =
       let empty = each_place p (λ q. at mid.log q ≡ [] → at new.log q ≡ []) (λ none. absurd (omega (arith, rw none at spent.was)))
       (λ q other none. spent.others q other ∙ none) in
@@ -325,16 +325,16 @@ module _ {P : Type 0} {told_by : P → Told} {old mid new : Books P} where
       spends_both before (assumption (empty, others, spent))
 
 -- while the copies of an instance of a run that was given up are spent one after the other
-pub record GivesUp {P : Type 0} (told_by : P → Told) (i : ℕ) (old now : Books P) : Type 0 where
-  pub spent : OnlySpends told_by i Abandoned old now
+pub record GivesUp {P : Type 0} (observe : P → Observation) (i : ℕ) (old now : EngineState P) : Type 0 where
+  pub spent : OnlySpends observe i Abandoned old now
   pub over : abandoned now.log ≡ true
-  pub home : is_out now.log i ≡ false
+  pub unleased : is_out now.log i ≡ false
 
-pub gives_up_more : {P : Type 0} {told_by : P → Told} {old mid new : Books P} (p : Place) → GivesUp told_by (owner p) old mid →
-    HasSpent told_by p Abandoned mid new →
-    GivesUp told_by (owner p) old new
+pub gives_up_more : {P : Type 0} {observe : P → Observation} {old mid new : EngineState P} (p : Place) → GivesUp observe (owner p) old mid →
+    HasSpent observe p Abandoned mid new →
+    GivesUp observe (owner p) old new
 gives_up_more p was one = record {
   spent = spends_more p was.spent one;
   over = behind (λ k. abandoned k ≡ true) was.over (λ b status. was.over) one.noted;
-  home = behind (λ k. is_out k (owner p) ≡ false) was.home (λ b status. was.home) one.noted;
+  unleased = behind (λ k. is_out k (owner p) ≡ false) was.unleased (λ b status. was.unleased) one.noted;
 }

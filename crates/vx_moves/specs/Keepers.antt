@@ -7,7 +7,7 @@ use Rattle.vx_condition.specs.Steps.{ticks}
 use Rattle.vx_record.specs.declared.entry.Entry.{Entry}
 use Rattle.vx_record.specs.declared.entry.Entry.TheVariants.{Take, Tick, Answer}
 use Rattle.vx_record.specs.Records.{Record}
-use Rattle.vx_record.specs.Inputs.{Input as Told, flush, to_answer, ticks_wait}
+use Rattle.vx_record.specs.Inputs.{Input as NotedInput, flush, to_answer, ticks_wait}
 use Rattle.vx_record.specs.Installs.{transform_at}
 use Rattle.vx_record.specs.Judges.{judge_at}
 use Rattle.vx_record.specs.Legal.{IsLegal}
@@ -98,13 +98,13 @@ pub record AnswersTaken (now : ℕ) (was is : Kept) : Type 0 where
 -- it was fit, and acts by itself at a moment, behind what it was given
 pub record Ticks (now : ℕ) (was is : Kept) : Type 0 where
   pub had : was.fit ≡ true
-  pub made : (h : Record) (i : ℕ) (given : List Told) → HasMade was h i given → HasMade is h i (given ++ record { step = ticks now; copies = [] } ∷ [])
+  pub made : (h : Record) (i : ℕ) (given : List NotedInput) → HasMade was h i given → HasMade is h i (given ++ record { step = ticks now; copies = [] } ∷ [])
   pub stays : StaysFit was is
 
 -- it was fit, and puts out all that it holds, behind what it was given
 pub record Flushes (was is : Kept) : Type 0 where
   pub had : was.fit ≡ true
-  pub made : (h : Record) (i : ℕ) (given : List Told) → HasMade was h i given → HasMade is h i (given ++ flush ∷ [])
+  pub made : (h : Record) (i : ℕ) (given : List NotedInput) → HasMade was h i given → HasMade is h i (given ++ flush ∷ [])
   pub stays : StaysFit was is
 
 -- no memory was found; its copies are those of the record still

@@ -1,18 +1,18 @@
--- What a call leaves of the books beside what stands at the places.
+-- What a call leaves of the engine's state beside what stands at the places.
 use Rattle.std.specs.Prelude.{◌≡◌, ℕ, Bool}
-use Rattle.vx_places.specs.Rooms.{SameRooms}
-use Rattle.vx_seats.specs.Staying.{EachSeat, OneSeat, Stays, HasRead}
-use Rattle.vx_moves.specs.declared.books.Books.{Books}
+use Rattle.vx_places.specs.Capacities.{SameCapacities}
+use Rattle.vx_instances.specs.Staying.{EachState, OneState, Stays, HasRead}
+use Rattle.vx_moves.specs.declared.engine.EngineState.{EngineState}
 
--- of each seat what its component says, its task, and whether what it owes, what it counts and what its port gave is known; the
--- rooms, and who is lent one; and the run
-pub record Leaves {P : Type 0} (old new : Books P) : Type 0 where
-  pub seats : EachSeat Stays old.seats new.seats
-  pub rooms : SameRooms old.places new.places
+-- of each state what its component says, its task, and whether what it owes, what it counts and what its port gave is known; the
+-- capacities, and who is lent one; and the run
+pub record Leaves {P : Type 0} (old new : EngineState P) : Type 0 where
+  pub states : EachState Stays old.states new.states
+  pub capacities : SameCapacities old.places new.places
   pub run : new.run ≡ old.run
 
 -- the same, but that what an instance counts isn't known any more where its lines weren't told
-pub record LeavesUntold {P : Type 0} (untold : Bool) (i : ℕ) (old new : Books P) : Type 0 where
-  pub seats : OneSeat (HasRead untold) i old.seats new.seats
-  pub rooms : SameRooms old.places new.places
+pub record LeavesUnobserved {P : Type 0} (unobserved : Bool) (i : ℕ) (old new : EngineState P) : Type 0 where
+  pub states : OneState (HasRead unobserved) i old.states new.states
+  pub capacities : SameCapacities old.places new.places
   pub run : new.run ≡ old.run

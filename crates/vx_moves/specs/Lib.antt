@@ -1,5 +1,5 @@
 pub mod Returns
-pub mod Rooms
+pub mod Capacities
 pub mod Keepers
 pub mod Stands
 pub mod Merging
@@ -8,6 +8,6 @@ pub mod Leasing
 pub mod Reading
 pub mod Taking
 pub mod Splitting
-pub mod Bearing
+pub mod Creating
 pub mod Answering
 pub mod Spends

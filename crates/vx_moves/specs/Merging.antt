@@ -1,6 +1,6 @@
 -- What an instance that merges may note.
 use Rattle.std.specs.Prelude.{◌≡◌, ◌≢◌, ℕ, false, true, List, [], ◌∷◌, length, Option, IfSome, IsSomeAnd}
-use Rattle.vx_ends.specs.Told.{Told}
+use Rattle.vx_ends.specs.Observation.{Observation}
 use Rattle.vx_record.specs.declared.entry.Entry.{Entry}
 use Rattle.vx_record.specs.declared.entry.Entry.TheVariants.{Tick, Answer}
 use Rattle.vx_record.specs.declared.output.Output.{Output}
@@ -18,15 +18,15 @@ use Rattle.vx_places.specs.Calls.{HasOutputRoomFor}
 use Rattle.vx_record.specs.Answering.{MayFlush}
 use Rattle.vx_moves.specs.Keepers.{keeper_at, IsKept, IsKeeper}
 use Rattle.vx_moves.specs.Stands.{StandsBy}
-use Rattle.vx_moves.specs.declared.books.Books.{Books}
+use Rattle.vx_moves.specs.declared.engine.EngineState.{EngineState}
 
 -- each keeper but one is that of the record; that one made what these inputs have it put out, which waits for the Answer
 pub record AreMade (i : ℕ) (given : List Input) (slots : List (Option Kept)) (h : Record) : Type 0 where
   pub others : (j : ℕ) → j ≢ i → IfSome (keeper_at slots j) (λ k. IsKept k h j)
   pub made : IsSomeAnd (keeper_at slots i) (λ k. HasMade k h i given)
 
-abbrev pub StandsMade : {P : Type 0} → (P → Told) → ℕ → List Input → Books P → Type 0
-StandsMade told_by i given books = StandsBy (AreMade i given) told_by books books.log
+abbrev pub StandsMade : {P : Type 0} → (P → Observation) → ℕ → List Input → EngineState P → Type 0
+StandsMade observe i given engine = StandsBy (AreMade i given) observe engine engine.log
 
 -- an instance that merges is out, at that moment, in a run that goes on; it holds something, and no tick waits for its Answer
 pub record MayMerge (h : Record) (i now : ℕ) : Type 0 where
@@ -38,16 +38,16 @@ pub record MayMerge (h : Record) (i now : ℕ) : Type 0 where
   pub unticked : ticks_wait h i ≡ false
 
 -- there is room for the outputs of what its keeper made
-abbrev pub HasRoomForMade : {P : Type 0} → ℕ → Books P → Type 0
-HasRoomForMade i books = IsKeeper (λ k. HasOutputRoomFor books.places i (length k.shelf.outputs)) books.keepers.items i
+abbrev pub HasRoomForMade : {P : Type 0} → ℕ → EngineState P → Type 0
+HasRoomForMade i engine = IsKeeper (λ k. HasOutputRoomFor engine.places i (length k.shelf.outputs)) engine.keepers.items i
 
 -- what it made may be noted as its answer: to the flush, where nothing can come any more and nothing is kept
-pub record MayNoteMade {P : Type 0} (i : ℕ) (books : Books P) : Type 0 where
-  pub joins : joins_at books.log i ≡ true
-  pub going : abandoned books.log ≡ false
-  pub out : is_out books.log i ≡ true
-  pub holds : at books.log (Held i) ≢ []
-  pub flush : unanswered books.log i ≡ [] → IsKeeper (λ k. MayFlush books.log i (kept_behind books.log i k.shelf.outputs)) books.keepers.items i
+pub record MayNoteMade {P : Type 0} (i : ℕ) (engine : EngineState P) : Type 0 where
+  pub joins : joins_at engine.log i ≡ true
+  pub going : abandoned engine.log ≡ false
+  pub out : is_out engine.log i ≡ true
+  pub holds : at engine.log (Held i) ≢ []
+  pub flush : unanswered engine.log i ≡ [] → IsKeeper (λ k. MayFlush engine.log i (kept_behind engine.log i k.shelf.outputs)) engine.keepers.items i
 
 -- an Answer of the instance, or a Tick
 abbrev pub IsMergeOf : ℕ → Record → Entry → Type 0

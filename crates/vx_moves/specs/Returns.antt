@@ -1,4 +1,4 @@
--- What came home had done what it was asked to.
+-- What came back had done what it was asked to.
 use Rattle.std.specs.Prelude.{◌≡◌, ℕ, ◌<◌, true, false, [], ◌∷◌}
 use Rattle.vx_record.specs.declared.entry.Entry.TheVariants.{Home}
 use Rattle.vx_record.specs.Records.{Record}
@@ -13,13 +13,13 @@ use Rattle.vx_record.specs.Turns.{at_lease}
 abbrev pub AreSettled : Record → ℕ → Type 0
 AreSettled h i = abandoned h ≡ false → (c : ℕ) → 0 < count c (joined (decided h i)) → 0 < times_spent h c
 
--- what comes home has spent all of which its attempts decided, unless the run was given up; where it has a port, its last confirm, made or failed,
+-- what comes back has spent all of which its attempts decided, unless the run was given up; where it has a port, its last confirm, made or failed,
 -- names what was due when it was leased
 pub record IsReturned (h : Record) (i : ℕ) : Type 0 where
   pub settled : AreSettled h i
-  pub told : device_at h i ≡ true → last_confirm h i ≡ due (at_lease h i) i
+  pub observed : device_at h i ≡ true → last_confirm h i ≡ due (at_lease h i) i
 
--- each instance that came home had
+-- each instance that came back had
 abbrev pub HaveReturned : Record → Type 0
 HaveReturned [] = Unit {0}
 HaveReturned (Home i ∷ h) = IsReturned h i × HaveReturned h

@@ -1,6 +1,6 @@
 -- A copy was spent, and the notice of its batch was given where that was due.
 use Rattle.std.specs.Prelude.{◌≡◌, ◌⊎◌, ◌<◌, ◌+◌, ◌==◌, ℕ, false, List, [], ◌∷◌, length, if◌then◌else◌}
-use Rattle.vx_ends.specs.Told.{Told}
+use Rattle.vx_ends.specs.Observation.{Observation}
 use Rattle.vx_status.specs.declared.outcome.Outcome.{Outcome}
 use Rattle.vx_status.specs.declared.batch_status.BatchStatus.{BatchStatus}
 use Rattle.vx_ledger.specs.Ledger.{Ledger}
@@ -16,11 +16,11 @@ use Rattle.vx_record.specs.Places.{Place, owner, same_place}
 use Rattle.vx_record.specs.Shifts.{at}
 use Rattle.vx_balance.specs.Balances.{Balances}
 use Rattle.vx_balance.specs.Live.{sum_below}
-use Rattle.vx_seats.specs.declared.seat.Seat.{Seat}
-use Rattle.vx_seats.specs.Knowing.{Knows}
+use Rattle.vx_instances.specs.declared.state.InstanceState.{InstanceState}
+use Rattle.vx_instances.specs.Knowing.{Knows}
 use Rattle.vx_moves.specs.Leaving.{Leaves}
 use Rattle.vx_moves.specs.Stands.{Stands}
-use Rattle.vx_moves.specs.declared.books.Books.{Books}
+use Rattle.vx_moves.specs.declared.engine.EngineState.{EngineState}
 
 -- a spend of the instance with that outcome, or a notice
 abbrev pub IsSpendOf : ℕ → Outcome → Record → Entry → Type 0
@@ -47,32 +47,32 @@ abbrev pub IsNotedAs : Entry → Record → Record → Type 0
 IsNotedAs e h log = (log ≡ e ∷ h) ⊎ ((b : ℕ) × ((status : BatchStatus) × (log ≡ Notice b status ∷ e ∷ h)))
 
 -- so it was, and the open batches and what is known of the instances are those of the record behind it
-pub record IsSettled {P : Type 0} (told_by : P → Told) (e : Entry) (h log : Record) (account : Ledger) (seats : List (Seat P)) : Type 0 where
+pub record IsSettled {P : Type 0} (observe : P → Observation) (e : Entry) (h log : Record) (account : Ledger) (states : List (InstanceState P)) : Type 0 where
   pub noted : IsNotedAs e h log
   pub legal : IsLegal log
   pub balances : Balances account log
-  pub knows : Knows told_by seats log
+  pub knows : Knows observe states log
 
 -- a copy of the oldest parcel at a place was spent so, and perhaps a notice given; the place lost that copy, and every other has what
 -- it had
-pub record HasSpent {P : Type 0} (told_by : P → Told) (p : Place) (outcome : Outcome) (old new : Books P) : Type 0 where
+pub record HasSpent {P : Type 0} (observe : P → Observation) (p : Place) (outcome : Outcome) (old new : EngineState P) : Type 0 where
   pub copy : ℕ
   pub was : 0 < count copy (oldest (at old.log p))
   pub noted : IsNotedAs (Spent (owner p) copy outcome) old.log new.log
   pub only : OnlyAdds (IsSpendOf (owner p) outcome) old.log new.log
-  pub stands : Stands told_by new
+  pub stands : Stands observe new
   pub lost : (c : ℕ) → count c (joined (at new.log p)) + count c (copy ∷ []) ≡ count c (joined (at old.log p))
   pub fewer : length (joined (at new.log p)) + 1 ≡ length (joined (at old.log p))
   pub left : unspent new.log + 1 ≡ unspent old.log
   pub others : (q : Place) → same_place p q ≡ false → at new.log q ≡ at old.log q
   pub leaves : Leaves old new
-  pub size : length new.seats ≡ length old.seats
+  pub size : length new.states ≡ length old.states
 
 -- copies of an instance were spent so, and notices given, and nothing else was done; a place that had no parcel still has none
-pub record OnlySpends {P : Type 0} (told_by : P → Told) (i : ℕ) (outcome : Outcome) (old new : Books P) : Type 0 where
+pub record OnlySpends {P : Type 0} (observe : P → Observation) (i : ℕ) (outcome : Outcome) (old new : EngineState P) : Type 0 where
   pub only : OnlyAdds (IsSpendOf i outcome) old.log new.log
-  pub stands : Stands told_by new
+  pub stands : Stands observe new
   pub empty : (q : Place) → at old.log q ≡ [] → at new.log q ≡ []
   pub others : (q : Place) → (owner q ≡ i → ⊥) → at new.log q ≡ at old.log q
   pub leaves : Leaves old new
-  pub size : length new.seats ≡ length old.seats
+  pub size : length new.states ≡ length old.states

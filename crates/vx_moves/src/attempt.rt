@@ -7,27 +7,27 @@ ghost use Rattle.vx_record.specs.Sinking.{MayAttempt};
 ghost use Rattle.vx_moves.specs.Leaving.{Leaves};
 ghost use Rattle.vx_moves.specs.Stands.{Stands, Steps};
 
-use crate::books::Books;
+use crate::engine::EngineState;
 use std::snapshot::Snapshot;
 use vx_ends::{Port, Reply};
 use vx_value::Bytes;
 
-impl<P: Port> Books<P> {
+impl<P: Port> EngineState<P> {
     /// Notes an attempt of a sink that is out: it gave the first `sent` of some bytes, and was answered.
     pub fn attempt(&mut self, i: u32, all: &Snapshot<Bytes>, sent: u64, reply: Reply)
-        requires stands { Stands P.told self.old }
-        requires within { i < length self.old.seats }
+        requires stands { Stands P.observed self.old }
+        requires within { i < length self.old.states }
         requires fits { sent ≤ length all.now.value }
         requires may { MayAttempt self.old.log i (joined (held self.old.log i))
             (take sent all.now.value) reply }
         requires left { MayStillCome self.old.log
             (Attempt i (joined (held self.old.log i)) (take sent all.now.value) reply) }
-        ensures steps { Steps P.told
+        ensures steps { Steps P.observed
             (Attempt i (joined (held self.old.log i)) (take sent all.now.value) reply) self.old
             self.new }
         ensures leaves { Leaves self.old self.new }
     {
-        self.seats.attempted(i, sent, reply);
+        self.states.attempted(i, sent, reply);
         self.log.note(&(i, all, sent, reply));
     }
 }

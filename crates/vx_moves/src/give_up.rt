@@ -9,22 +9,22 @@ ghost use Rattle.vx_tasks.specs.Joining.{joins_at};
 ghost use Rattle.vx_moves.specs.Spends.{HasSpent, OnlySpends, unspent};
 ghost use Rattle.vx_moves.specs.Stands.{Stands};
 
-use crate::books::Books;
+use crate::engine::EngineState;
 use crate::keeping;
 use crate::settle::settle;
 use vx_ends::Port;
 use vx_places::Lost;
 use vx_status::Outcome;
 
-impl<P: Port> Books<P> {
-    /// Gives up a copy of the oldest output of an instance at home, where the run is given up. Whether there was one; where
+impl<P: Port> EngineState<P> {
+    /// Gives up a copy of the oldest output of an unleased instance, where the run is given up. Whether there was one; where
     /// there was none, nothing has changed.
     pub fn give_up_output(&mut self, i: u32) -> bool
-        requires stands { Stands P.told self.old }
-        requires within { i < length self.old.seats }
+        requires stands { Stands P.observed self.old }
+        requires within { i < length self.old.states }
         requires over { abandoned self.old.log ≡ true }
-        requires home { is_out self.old.log i ≡ false }
-        ensures spent { IsTrue result → HasSpent P.told (Outputs i) Abandoned self.old self.new }
+        requires unleased { is_out self.old.log i ≡ false }
+        ensures spent { IsTrue result → HasSpent P.observed (Outputs i) Abandoned self.old self.new }
         ensures none { result ≡ false → at self.old.log (Outputs i) ≡ [] }
         ensures unchanged { result ≡ false → self.new ≡ self.old }
     {
@@ -33,7 +33,7 @@ impl<P: Port> Books<P> {
         };
         let Lost { copy, last: _ } = lost;
         settle(
-            &mut self.seats,
+            &mut self.states,
             &mut self.balance,
             &mut self.log,
             i,
@@ -43,15 +43,15 @@ impl<P: Port> Books<P> {
         true
     }
 
-    /// Gives up a copy of a waiting child of an instance at home, the oldest for its target, where the run is given up. Whether one
-    /// waited; where none did, nothing has changed.
+    /// Gives up a copy of a waiting child of an unleased instance, the oldest for its target, where the run is given up. Whether
+    /// one waited; where none did, nothing has changed.
     pub fn give_up_waiting(&mut self, i: u32) -> bool
-        requires stands { Stands P.told self.old }
-        requires within { i < length self.old.seats }
+        requires stands { Stands P.observed self.old }
+        requires within { i < length self.old.states }
         requires over { abandoned self.old.log ≡ true }
-        requires home { is_out self.old.log i ≡ false }
+        requires unleased { is_out self.old.log i ≡ false }
         ensures spent { IsTrue result →
-            (target : ℕ) × HasSpent P.told (Waiting i target) Abandoned self.old self.new }
+            (target : ℕ) × HasSpent P.observed (Waiting i target) Abandoned self.old self.new }
         ensures none { result ≡ false → (target : ℕ) → at self.old.log (Waiting i target) ≡ [] }
         ensures unchanged { result ≡ false → self.new ≡ self.old }
     {
@@ -63,7 +63,7 @@ impl<P: Port> Books<P> {
         };
         let Lost { copy, last: _ } = lost;
         settle(
-            &mut self.seats,
+            &mut self.states,
             &mut self.balance,
             &mut self.log,
             i,
@@ -73,14 +73,14 @@ impl<P: Port> Books<P> {
         true
     }
 
-    /// Gives up a copy of the oldest parcel in a stage of an instance's buffer, where the run is given up and the instance is at home. Whether there was one; where there was none, nothing has changed.
+    /// Gives up a copy of the oldest parcel in a stage of an instance's buffer, where the run is given up and the instance is unleased. Whether there was one; where there was none, nothing has changed.
     pub fn give_up_buffered(&mut self, i: u32) -> bool
-        requires stands { Stands P.told self.old }
-        requires within { i < length self.old.seats }
+        requires stands { Stands P.observed self.old }
+        requires within { i < length self.old.states }
         requires over { abandoned self.old.log ≡ true }
-        requires home { is_out self.old.log i ≡ false }
+        requires unleased { is_out self.old.log i ≡ false }
         ensures spent { IsTrue result →
-            (stage : ℕ) × HasSpent P.told (Contents i stage) Abandoned self.old self.new }
+            (stage : ℕ) × HasSpent P.observed (Contents i stage) Abandoned self.old self.new }
         ensures none { result ≡ false → (stage : ℕ) → at self.old.log (Contents i stage) ≡ [] }
         ensures unchanged { result ≡ false → self.new ≡ self.old }
     {
@@ -92,7 +92,7 @@ impl<P: Port> Books<P> {
         };
         let Lost { copy, last: _ } = lost;
         settle(
-            &mut self.seats,
+            &mut self.states,
             &mut self.balance,
             &mut self.log,
             i,
@@ -102,28 +102,28 @@ impl<P: Port> Books<P> {
         true
     }
 
-    /// Gives up all that stands at an instance at home, where the run is given up, and gives the notices that are due then.
+    /// Gives up all that stands at an unleased instance, where the run is given up, and gives the notices that are due then.
     pub fn give_up(&mut self, i: u32)
-        requires stands { Stands P.told self.old }
-        requires within { i < length self.old.seats }
+        requires stands { Stands P.observed self.old }
+        requires within { i < length self.old.states }
         requires over { abandoned self.old.log ≡ true }
-        requires home { is_out self.old.log i ≡ false }
-        ensures spent { OnlySpends P.told i Abandoned self.old self.new }
+        requires unleased { is_out self.old.log i ≡ false }
+        ensures spent { OnlySpends P.observed i Abandoned self.old self.new }
         ensures bare { (p : Place) → owner p ≡ i → at self.new.log p ≡ [] }
     {
         self.give_up_outputs(i);
         self.give_up_children(i);
         self.give_up_buffer(i);
-        self.give_up_hand(i);
+        self.give_up_held(i);
     }
 
     /// Gives up all that an instance holds.
-    fn give_up_hand(&mut self, i: u32)
-        requires stands { Stands P.told self.old }
-        requires within { i < length self.old.seats }
+    fn give_up_held(&mut self, i: u32)
+        requires stands { Stands P.observed self.old }
+        requires within { i < length self.old.states }
         requires over { abandoned self.old.log ≡ true }
-        requires home { is_out self.old.log i ≡ false }
-        ensures spent { OnlySpends P.told i Abandoned self.old self.new }
+        requires unleased { is_out self.old.log i ≡ false }
+        ensures spent { OnlySpends P.observed i Abandoned self.old self.new }
         ensures none { at self.new.log (Held i) ≡ [] }
     {
         if self.merges(i) {
@@ -133,26 +133,26 @@ impl<P: Port> Books<P> {
         }
     }
 
-    /// Gives up a copy of what an instance at home keeps that merges. Whether there was one.
+    /// Gives up a copy of what an unleased instance keeps that merges. Whether there was one.
     fn give_up_kept(&mut self, i: u32) -> bool
-        requires stands { Stands P.told self.old }
-        requires within { i < length self.old.seats }
+        requires stands { Stands P.observed self.old }
+        requires within { i < length self.old.states }
         requires joins { joins_at self.old.log i ≡ true }
         requires over { abandoned self.old.log ≡ true }
-        requires home { is_out self.old.log i ≡ false }
-        ensures spent { OnlySpends P.told i Abandoned self.old self.new }
+        requires unleased { is_out self.old.log i ≡ false }
+        ensures spent { OnlySpends P.observed i Abandoned self.old self.new }
         ensures fewer { IsTrue result → unspent self.new.log + 1 ≡ unspent self.old.log }
         ensures none { result ≡ false → at self.new.log (Held i) ≡ [] }
         ensures over { abandoned self.new.log ≡ true }
-        ensures home { is_out self.new.log i ≡ false }
+        ensures unleased { is_out self.new.log i ≡ false }
         ensures joins { joins_at self.new.log i ≡ true }
     {
         let Some(copy) = keeping::lose(&mut self.keepers, i as usize) else {
             return false;
         };
-        self.seats.spent(i, Outcome::Abandoned, false);
+        self.states.spent(i, Outcome::Abandoned, false);
         settle(
-            &mut self.seats,
+            &mut self.states,
             &mut self.balance,
             &mut self.log,
             i,
@@ -164,12 +164,12 @@ impl<P: Port> Books<P> {
 
     /// Gives up all that an instance keeps that merges.
     fn give_up_keeper(&mut self, i: u32)
-        requires stands { Stands P.told self.old }
-        requires within { i < length self.old.seats }
+        requires stands { Stands P.observed self.old }
+        requires within { i < length self.old.states }
         requires joins { joins_at self.old.log i ≡ true }
         requires over { abandoned self.old.log ≡ true }
-        requires home { is_out self.old.log i ≡ false }
-        ensures spent { OnlySpends P.told i Abandoned self.old self.new }
+        requires unleased { is_out self.old.log i ≡ false }
+        ensures spent { OnlySpends P.observed i Abandoned self.old self.new }
         ensures none { at self.new.log (Held i) ≡ [] }
     {
         while self.give_up_kept(i) {}
@@ -177,13 +177,13 @@ impl<P: Port> Books<P> {
 
     /// Gives up all outputs of an instance.
     fn give_up_outputs(&mut self, i: u32)
-        requires stands { Stands P.told self.old }
-        requires within { i < length self.old.seats }
+        requires stands { Stands P.observed self.old }
+        requires within { i < length self.old.states }
         requires over { abandoned self.old.log ≡ true }
-        requires home { is_out self.old.log i ≡ false }
-        ensures spent { OnlySpends P.told i Abandoned self.old self.new }
+        requires unleased { is_out self.old.log i ≡ false }
+        ensures spent { OnlySpends P.observed i Abandoned self.old self.new }
         ensures over { abandoned self.new.log ≡ true }
-        ensures home { is_out self.new.log i ≡ false }
+        ensures unleased { is_out self.new.log i ≡ false }
         ensures none { at self.new.log (Outputs i) ≡ [] }
     {
         while self.give_up_output(i) {}
@@ -191,13 +191,13 @@ impl<P: Port> Books<P> {
 
     /// Gives up all children of an instance that wait.
     fn give_up_children(&mut self, i: u32)
-        requires stands { Stands P.told self.old }
-        requires within { i < length self.old.seats }
+        requires stands { Stands P.observed self.old }
+        requires within { i < length self.old.states }
         requires over { abandoned self.old.log ≡ true }
-        requires home { is_out self.old.log i ≡ false }
-        ensures spent { OnlySpends P.told i Abandoned self.old self.new }
+        requires unleased { is_out self.old.log i ≡ false }
+        ensures spent { OnlySpends P.observed i Abandoned self.old self.new }
         ensures over { abandoned self.new.log ≡ true }
-        ensures home { is_out self.new.log i ≡ false }
+        ensures unleased { is_out self.new.log i ≡ false }
         ensures none { (target : ℕ) → at self.new.log (Waiting i target) ≡ [] }
     {
         while self.give_up_waiting(i) {}
@@ -205,13 +205,13 @@ impl<P: Port> Books<P> {
 
     /// Gives up all that is in an instance's buffer.
     fn give_up_buffer(&mut self, i: u32)
-        requires stands { Stands P.told self.old }
-        requires within { i < length self.old.seats }
+        requires stands { Stands P.observed self.old }
+        requires within { i < length self.old.states }
         requires over { abandoned self.old.log ≡ true }
-        requires home { is_out self.old.log i ≡ false }
-        ensures spent { OnlySpends P.told i Abandoned self.old self.new }
+        requires unleased { is_out self.old.log i ≡ false }
+        ensures spent { OnlySpends P.observed i Abandoned self.old self.new }
         ensures over { abandoned self.new.log ≡ true }
-        ensures home { is_out self.new.log i ≡ false }
+        ensures unleased { is_out self.new.log i ≡ false }
         ensures none { (stage : ℕ) → at self.new.log (Contents i stage) ≡ [] }
     {
         while self.give_up_buffered(i) {}

@@ -1,28 +1,28 @@
-//! The books of a run, which stand for its record, and one step for each kind of entry.
+//! The engine's state in a run, which stands for its record, and one step for each kind of entry.
 #![tactic(auto)]
 
 mod abandon;
 mod answer;
 mod attempt;
-mod bear;
-mod books;
 mod close;
 mod confirm;
+mod create_batch;
 mod divide;
+mod engine;
 mod give_up;
-mod hands;
-mod home;
 mod keeping;
 mod lease;
+mod lending;
 mod merge;
 mod pair;
 mod push;
 mod read;
+mod return_task;
 mod run;
 mod settle;
 mod spend;
 mod split;
 mod take;
 
-pub use books::Books;
+pub use engine::EngineState;
 pub use run::Run;

@@ -4,7 +4,7 @@ ghost use Rattle.vx_record.specs.Places.Place.{Held};
 ghost use Rattle.vx_record.specs.Shifts.{at};
 ghost use Rattle.vx_record.specs.Additions.{OnlyAdds};
 ghost use Rattle.vx_record.specs.Answering.{MayFlush};
-ghost use Rattle.vx_record.specs.Inputs.{Input as Told, ticks_wait, unanswered, to_answer};
+ghost use Rattle.vx_record.specs.Inputs.{Input as NotedInput, ticks_wait, unanswered, to_answer};
 ghost use Rattle.vx_record.specs.Transforms.{IsTickDue};
 ghost use Rattle.vx_tasks.specs.Joining.{joins_at};
 ghost use Rattle.vx_keeping.specs.Keeping.{taken_in};
@@ -13,17 +13,17 @@ ghost use Rattle.vx_moves.specs.Keepers.{IsKeeper, CanAnswer, OneKeeper, StaysFi
 ghost use Rattle.vx_moves.specs.Merging.{StandsMade, HasRoomForMade, MayMerge, MayNoteMade, IsMergeOf, HasNotedMade, HasAnswered, HasTicked, HasFlushed};
 ghost use Rattle.vx_moves.specs.Stands.{Stands};
 
-use crate::books::Books;
+use crate::engine::EngineState;
 use crate::keeping;
 use std::alloc::Global;
 use vx_ends::Port;
 use vx_value::WantOfMemory;
 
-impl<P: Port> Books<P> {
+impl<P: Port> EngineState<P> {
     /// Whether an instance merges.
     pub fn merges(&self, i: u32) -> bool
-        requires stands { Stands P.told self.now }
-        requires within { i < length self.now.seats }
+        requires stands { Stands P.observed self.now }
+        requires within { i < length self.now.states }
         ensures { result ≡ joins_at self.now.log i }
     {
         keeping::is_there(&self.keepers, i as usize)
@@ -31,8 +31,8 @@ impl<P: Port> Books<P> {
 
     /// Whether an instance that merges holds nothing.
     pub fn keeps_none(&self, i: u32) -> bool
-        requires stands { Stands P.told self.now }
-        requires within { i < length self.now.seats }
+        requires stands { Stands P.observed self.now }
+        requires within { i < length self.now.states }
         requires joins { joins_at self.now.log i ≡ true }
         ensures { result ≡ is_empty (at self.now.log (Held i)) }
     {
@@ -41,8 +41,8 @@ impl<P: Port> Books<P> {
 
     /// Whether the keeper of an instance that merges has room for one more parcel.
     pub fn has_kept_room(&self, i: u32) -> bool
-        requires stands { Stands P.told self.now }
-        requires within { i < length self.now.seats }
+        requires stands { Stands P.observed self.now }
+        requires within { i < length self.now.states }
         requires joins { joins_at self.now.log i ≡ true }
         ensures { IsTrue result ↔
             IsKeeper (λ k. length k.taken.items < k.taken.room) self.now.keepers.items i }
@@ -53,8 +53,8 @@ impl<P: Port> Books<P> {
     /// The moment in milliseconds from which on an instance that merges, and answered all that it took, is to act by itself. `None` where
     /// it holds no group, or isn't fit.
     pub fn check_due(&self, i: u32) -> Option<u64>
-        requires stands { Stands P.told self.now }
-        requires within { i < length self.now.seats }
+        requires stands { Stands P.observed self.now }
+        requires within { i < length self.now.states }
         requires joins { joins_at self.now.log i ≡ true }
         ensures due { IfSome result (λ moment. (now : ℕ) → moment ≤ now → IsTickDue self.now.log i now) }
         ensures none { IfSome result (λ moment. taken_in self.now.log i ≡ []) }
@@ -69,11 +69,11 @@ impl<P: Port> Books<P> {
     ///
     /// For want of memory nothing has changed in the record, and its keeper answers nothing any more.
     pub fn merge_taken(&mut self, alloc: Global, i: u32, now: u64) -> Result<(), WantOfMemory>
-        requires stands { Stands P.told self.old }
-        requires within { i < length self.old.seats }
+        requires stands { Stands P.observed self.old }
+        requires within { i < length self.old.states }
         requires may { MayMerge self.old.log i now }
         requires took { unanswered self.old.log i ≢ [] }
-        ensures stands { Stands P.told self.new }
+        ensures stands { Stands P.observed self.new }
         ensures only { OnlyAdds (IsMergeOf i) self.old.log self.new.log }
         ensures noted { OnOk result (HasAnswered i self.old.log self.new.log) }
         ensures answered { OnOk result (unanswered self.new.log i ≡ []) }
@@ -83,7 +83,7 @@ impl<P: Port> Books<P> {
             (OneKeeper GetsUnfit i self.old.keepers.items self.new.keepers.items) }
         ensures leaves { Leaves self.old self.new }
         ensures unchanged { OnErr result (self.new.log ≡ self.old.log) }
-        ensures size { length self.new.seats ≡ length self.old.seats }
+        ensures size { length self.new.states ≡ length self.old.states }
     {
         keeping::answer(&mut self.keepers, i as usize, alloc, now)?;
         self.reserve_made(i)?;
@@ -96,12 +96,12 @@ impl<P: Port> Books<P> {
     ///
     /// For want of memory nothing has changed in the record, and its keeper answers nothing any more.
     pub fn merge_tick(&mut self, alloc: Global, i: u32, now: u64) -> Result<(), WantOfMemory>
-        requires stands { Stands P.told self.old }
-        requires within { i < length self.old.seats }
+        requires stands { Stands P.observed self.old }
+        requires within { i < length self.old.states }
         requires may { MayMerge self.old.log i now }
         requires none { taken_in self.old.log i ≡ [] }
         requires due { IsTickDue self.old.log i now }
-        ensures stands { Stands P.told self.new }
+        ensures stands { Stands P.observed self.new }
         ensures only { OnlyAdds (IsMergeOf i) self.old.log self.new.log }
         ensures noted { OnOk result (HasTicked i now self.old.log self.new.log) }
         ensures answered { OnOk result (unanswered self.new.log i ≡ []) }
@@ -111,7 +111,7 @@ impl<P: Port> Books<P> {
             (OneKeeper GetsUnfit i self.old.keepers.items self.new.keepers.items) }
         ensures leaves { Leaves self.old self.new }
         ensures unchanged { OnErr result (self.new.log ≡ self.old.log) }
-        ensures size { length self.new.seats ≡ length self.old.seats }
+        ensures size { length self.new.states ≡ length self.old.states }
     {
         keeping::tick(&mut self.keepers, i as usize, alloc, now)?;
         self.reserve_made(i)?;
@@ -125,12 +125,12 @@ impl<P: Port> Books<P> {
     ///
     /// For want of memory nothing has changed in the record, and its keeper answers nothing any more.
     pub fn merge_flush(&mut self, alloc: Global, i: u32, now: u64) -> Result<(), WantOfMemory>
-        requires stands { Stands P.told self.old }
-        requires within { i < length self.old.seats }
+        requires stands { Stands P.observed self.old }
+        requires within { i < length self.old.states }
         requires may { MayMerge self.old.log i now }
         requires none { unanswered self.old.log i ≡ [] }
         requires last { MayFlush self.old.log i [] }
-        ensures stands { Stands P.told self.new }
+        ensures stands { Stands P.observed self.new }
         ensures only { OnlyAdds (IsMergeOf i) self.old.log self.new.log }
         ensures noted { OnOk result (HasFlushed i self.old.log self.new.log) }
         ensures answered { OnOk result (unanswered self.new.log i ≡ []) }
@@ -140,7 +140,7 @@ impl<P: Port> Books<P> {
             (OneKeeper GetsUnfit i self.old.keepers.items self.new.keepers.items) }
         ensures leaves { Leaves self.old self.new }
         ensures unchanged { OnErr result (self.new.log ≡ self.old.log) }
-        ensures size { length self.new.seats ≡ length self.old.seats }
+        ensures size { length self.new.states ≡ length self.old.states }
     {
         keeping::flush(&mut self.keepers, i as usize, alloc)?;
         self.reserve_made(i)?;
@@ -150,23 +150,23 @@ impl<P: Port> Books<P> {
 
     // Makes room for what a keeper made. Where no memory is found for that, it answers nothing any more.
     fn reserve_made(&mut self, i: u32) -> Result<(), WantOfMemory>
-        requires within { i < length self.old.seats }
-        requires rows { length self.old.places ≡ length self.old.seats }
+        requires within { i < length self.old.states }
+        requires rows { length self.old.places ≡ length self.old.states }
         requires slots { length self.old.keepers.items ≡ length self.old.places }
         requires fit { IsKeeper (λ k. k.fit ≡ true) self.old.keepers.items i }
         ensures made { OnOk result
-            ((given : List Told) → StandsMade P.told i given self.old →
-            StandsMade P.told i given self.new) }
+            ((given : List NotedInput) → StandsMade P.observed i given self.old →
+            StandsMade P.observed i given self.new) }
         ensures room { OnOk result (HasRoomForMade i self.new) }
         ensures kept { OnOk result (self.new.keepers.items ≡ self.old.keepers.items) }
         ensures short { OnErr result
-            ((given : List Told) → StandsMade P.told i given self.old →
-            ticks_wait self.old.log i ≡ false → Stands P.told self.new) }
+            ((given : List NotedInput) → StandsMade P.observed i given self.old →
+            ticks_wait self.old.log i ≡ false → Stands P.observed self.new) }
         ensures fails { OnErr result
             (OneKeeper FailsShort i self.old.keepers.items self.new.keepers.items) }
         ensures leaves { Leaves self.old self.new }
         ensures unchanged { self.new.log ≡ self.old.log }
-        ensures size { length self.new.seats ≡ length self.old.seats }
+        ensures size { length self.new.states ≡ length self.old.states }
     {
         let n = keeping::outputs(&self.keepers, i as usize);
         match self.places.reserve_outputs(i, n) {
@@ -180,21 +180,21 @@ impl<P: Port> Books<P> {
 
     // Notes what a keeper made as the answer of its instance, for which there is room.
     fn note_made(&mut self, i: u32)
-        requires made { StandsMade P.told i (to_answer self.old.log i) self.old }
-        requires within { i < length self.old.seats }
+        requires made { StandsMade P.observed i (to_answer self.old.log i) self.old }
+        requires within { i < length self.old.states }
         requires room { HasRoomForMade i self.old }
         requires may { MayNoteMade i self.old }
-        ensures stands { Stands P.told self.new }
+        ensures stands { Stands P.observed self.new }
         ensures only { OnlyAdds (IsMergeOf i) self.old.log self.new.log }
         ensures noted { HasNotedMade i self.old.keepers.items self.old.log self.new.log }
         ensures answered { unanswered self.new.log i ≡ [] }
         ensures fit { OneKeeper StaysFit i self.old.keepers.items self.new.keepers.items }
         ensures leaves { Leaves self.old self.new }
-        ensures size { length self.new.seats ≡ length self.old.seats }
+        ensures size { length self.new.states ≡ length self.old.states }
     {
         let outputs = keeping::put_out(&mut self.keepers, i as usize);
         self.log.note(&(i, &outputs));
-        self.seats.answered(i, outputs.len() as u64, 0);
+        self.states.answered(i, outputs.len() as u64, 0);
         self.places.put_out(i, outputs);
     }
 }

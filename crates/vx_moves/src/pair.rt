@@ -1,5 +1,5 @@
 ghost use Rattle.std.specs.Prelude.{◌≡◌, ◌≤◌, [], length, vec_capacity};
-ghost use Rattle.vx_moves.specs.Bearing.{paired};
+ghost use Rattle.vx_moves.specs.Creating.{paired};
 
 use vx_ledger::{FinalizersList, Parcel, SharedEventList};
 use vx_transform::Output;

@@ -10,6 +10,6 @@ pub struct Run {
     pub abandoned: Option<AbandonCause>,
     /// The moment of the Install, and from the first lease on that of the last one, in milliseconds.
     pub latest: u64,
-    /// Whether the caller marked the run as short of memory. Until then, what came home had done what it was asked to.
-    pub short: bool,
+    /// Whether the caller marked the run as short of memory. Until then, what came back had done what it was asked to.
+    pub out_of_memory: bool,
 }

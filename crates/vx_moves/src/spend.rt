@@ -8,21 +8,21 @@ ghost use Rattle.vx_places.specs.Views.{parcels_here};
 ghost use Rattle.vx_moves.specs.Spends.{MaySpendFrom, MaySpendAll, HasSpent, OnlySpends};
 ghost use Rattle.vx_moves.specs.Stands.{Stands};
 
-use crate::books::Books;
+use crate::engine::EngineState;
 use crate::settle::settle;
 use vx_ends::Port;
 use vx_places::Lost;
 use vx_status::Outcome;
 
-impl<P: Port> Books<P> {
+impl<P: Port> EngineState<P> {
     /// Spends a copy of the oldest parcel that an instance holds, and gives the notice that is due then. Whether there was
     /// one; where there was none, nothing has changed.
     pub fn spend_held(&mut self, i: u32, outcome: Outcome) -> bool
-        requires stands { Stands P.told self.old }
-        requires within { i < length self.old.seats }
+        requires stands { Stands P.observed self.old }
+        requires within { i < length self.old.states }
         requires kept { IsSome (parcels_here self.old.places (Held i)) }
         requires may { MaySpendFrom self.old.log (Held i) outcome }
-        ensures spent { IsTrue result → HasSpent P.told (Held i) outcome self.old self.new }
+        ensures spent { IsTrue result → HasSpent P.observed (Held i) outcome self.old self.new }
         ensures kept { IsSome (parcels_here self.new.places (Held i)) }
         ensures none { result ≡ false → at self.old.log (Held i) ≡ [] }
         ensures unchanged { result ≡ false → self.new ≡ self.old }
@@ -31,9 +31,9 @@ impl<P: Port> Books<P> {
             return false;
         };
         let Lost { copy, last } = lost;
-        self.seats.spent(i, outcome, last);
+        self.states.spent(i, outcome, last);
         settle(
-            &mut self.seats,
+            &mut self.states,
             &mut self.balance,
             &mut self.log,
             i,
@@ -45,11 +45,11 @@ impl<P: Port> Books<P> {
 
     /// Spends all that an instance holds so, and gives the notices that are due then.
     pub fn spend_all_held(&mut self, i: u32, outcome: Outcome)
-        requires stands { Stands P.told self.old }
-        requires within { i < length self.old.seats }
+        requires stands { Stands P.observed self.old }
+        requires within { i < length self.old.states }
         requires kept { IsSome (parcels_here self.old.places (Held i)) }
         requires may { MaySpendAll self.old.log (Held i) outcome }
-        ensures spent { OnlySpends P.told i outcome self.old self.new }
+        ensures spent { OnlySpends P.observed i outcome self.old self.new }
         ensures others { (q : Place) → same_place (Held i) q ≡ false →
             at self.new.log q ≡ at self.old.log q }
         ensures kept { IsSome (parcels_here self.new.places (Held i)) }
@@ -61,10 +61,10 @@ impl<P: Port> Books<P> {
     /// Spends a copy of the oldest output of an instance, which nobody reads, and gives the notice that is due then.
     /// Whether there was one; where there was none, nothing has changed.
     pub fn spend_unread(&mut self, i: u32) -> bool
-        requires stands { Stands P.told self.old }
-        requires within { i < length self.old.seats }
+        requires stands { Stands P.observed self.old }
+        requires within { i < length self.old.states }
         requires may { MaySpendFrom self.old.log (Outputs i) NoConsumer }
-        ensures spent { IsTrue result → HasSpent P.told (Outputs i) NoConsumer self.old self.new }
+        ensures spent { IsTrue result → HasSpent P.observed (Outputs i) NoConsumer self.old self.new }
         ensures none { result ≡ false → at self.old.log (Outputs i) ≡ [] }
         ensures unchanged { result ≡ false → self.new ≡ self.old }
     {
@@ -72,9 +72,9 @@ impl<P: Port> Books<P> {
             return false;
         };
         let Lost { copy, last } = lost;
-        self.seats.unread(i, last);
+        self.states.unread(i, last);
         settle(
-            &mut self.seats,
+            &mut self.states,
             &mut self.balance,
             &mut self.log,
             i,
@@ -87,20 +87,20 @@ impl<P: Port> Books<P> {
     /// Spends a copy of a waiting child of an instance, the oldest for its target, which is full and drops the newest, and
     /// gives the notice that is due then.
     pub fn spend_newest(&mut self, i: u32, child: usize, target: u32)
-        requires stands { Stands P.told self.old }
-        requires within { i < length self.old.seats }
-        requires there { target < length self.old.seats }
+        requires stands { Stands P.observed self.old }
+        requires within { i < length self.old.states }
+        requires there { target < length self.old.states }
         requires oldest { IsOldestFor self.old.places i target child }
         requires may { MaySpendFrom self.old.log (Waiting i target) NewestDropped }
-        ensures spent { HasSpent P.told (Waiting i target) NewestDropped self.old self.new }
+        ensures spent { HasSpent P.observed (Waiting i target) NewestDropped self.old self.new }
     {
         let Some(lost) = self.places.spend_waiting(i, child, target) else {
             unreachable!();
         };
         let Lost { copy, last } = lost;
-        self.seats.dropped(target, last);
+        self.states.dropped(target, last);
         settle(
-            &mut self.seats,
+            &mut self.states,
             &mut self.balance,
             &mut self.log,
             i,

@@ -10,7 +10,7 @@ ghost use Rattle.vx_moves.specs.Leaving.{Leaves};
 ghost use Rattle.vx_moves.specs.Splitting.{HasSplit, IsSplitShort, oldest_readers};
 ghost use Rattle.vx_moves.specs.Stands.{Stands};
 
-use crate::books::Books;
+use crate::engine::EngineState;
 use std::snapshot::Snapshot;
 use vx_ends::Port;
 use vx_history::History;
@@ -18,27 +18,27 @@ use vx_ledger::{ChildList, Parcel, RouteRefused, Routed, Short};
 use vx_record::Entry;
 use vx_transform::Output;
 
-impl<P: Port> Books<P> {
-    /// Replaces the oldest output of an instance at home, of which no child waits, by a child for each instance that reads a port on
+impl<P: Port> EngineState<P> {
+    /// Replaces the oldest output of an unleased instance, of which no child waits, by a child for each instance that reads a port on
     /// which it was put out.
     /// Whether there is one; where there is none, nothing has changed in the record.
     ///
     /// `Numbers` comes exactly where the children's numbers would pass 2^63, and before memory is asked for. After a refusal
     /// nothing has changed in the record.
     pub fn split(&mut self, i: u32) -> Result<bool, Short>
-        requires stands { Stands P.told self.old }
-        requires within { i < length self.old.seats }
+        requires stands { Stands P.observed self.old }
+        requires within { i < length self.old.states }
         requires going { abandoned self.old.log ≡ false }
-        requires home { is_out self.old.log i ≡ false }
+        requires unleased { is_out self.old.log i ≡ false }
         requires none_waits { NoneWaits self.old.places i }
         requires some { HasOutput self.old.places i }
-        ensures stands { Stands P.told self.new }
+        ensures stands { Stands P.observed self.new }
         ensures leaves { Leaves self.old self.new }
-        ensures split { result ≡ Ok true → HasSplit P.told i self.old self.new }
+        ensures split { result ≡ Ok true → HasSplit P.observed i self.old self.new }
         ensures unread { result ≡ Ok false → oldest_readers self.old.log i ≡ [] }
         ensures short { IfErr result (IsSplitShort self.old.log i) }
         ensures unchanged { (result ≡ Ok true → ⊥) → self.new.log ≡ self.old.log }
-        ensures size { length self.new.seats ≡ length self.old.seats }
+        ensures size { length self.new.states ≡ length self.old.states }
     {
         let room = self.places.take_child_room(i);
         let Some(Output { ports, parcel }) = self.places.take_output(i) else {
@@ -46,7 +46,7 @@ impl<P: Port> Books<P> {
         };
         let ports = bounded(ports);
         let was = Snapshot::of(&parcel);
-        let outlet = &self.seats.get(i).outlet;
+        let outlet = &self.states.get(i).outlet;
         match self.balance.route(outlet, ports, parcel, room) {
             Ok(Routed::Children(children)) => {
                 note_split(&mut self.log, i, ports, &was, &children);

@@ -6,7 +6,7 @@ use Rattle.std.proofs.lemmas.Bool.Decides.{nat_tests}
 use Rattle.std.proofs.Math.ListN.{drop_of_length-le}
 use Rattle.std.proofs.Math.Nat.{two-pow-succ}
 use Rattle.std.proofs.lemmas.Nat.{pow_pos}
-use Rattle.vx_value.specs.Texts.{Word}
+use Rattle.vx_value.specs.Texts.{ByteString}
 use Rattle.vx_value.specs.declared.event.Event.{Event}
 use Rattle.vx_condition.specs.Conditions.{Says}
 use Rattle.vx_condition.specs.Steps.{Test}
@@ -19,10 +19,10 @@ pub next_bit : (n : ℕ) → 2 ^ (n + 1) ≡ 2 ^ n + 2 ^ n
 next_bit n = let one : n + 1 ≡ suc n = omega arith in ap (λ (k : ℕ). 2 ^ k) one ∙ two-pow-succ n
 
 -- the bits of the ports before one are those of all but the others, whatever the conditions mean
-pub record IsSoFar (texts : List Word) (e : Event) (i accepting : ℕ) : Type 0 where
+pub record IsSoFar (texts : List ByteString) (e : Event) (i accepting : ℕ) : Type 0 where
   pub bits : (tests : List Test) → AllMean texts tests →
       accepting + port_bits (accepting_ports i (drop i tests) e) ≡ port_bits (accepting_ports 0 tests e)
-  pub meant : (k : ℕ) → k < i → (text : Word) → text ≡ slice_index_or texts k text → IsMeant text
+  pub meant : (k : ℕ) → k < i → (text : ByteString) → text ≡ slice_index_or texts k text → IsMeant text
 
 port_bits-part : (b : Bool) (i : ℕ) (ports : List ℕ) →
     port_bits ((if b then i ∷ [] else []) ++ ports) ≡ (if b then 2 ^ i else 0) + port_bits ports
@@ -44,7 +44,7 @@ moved_on true accepting next power rest all e f = omega arith
 moved_on false accepting next power rest all e f = omega arith
 
 -- the next port's bit comes in where its condition holds
-pub so_far-more : (texts : List Word) (e : Event) (i accepting next : ℕ) (text : Word) (holds : Bool) →
+pub so_far-more : (texts : List ByteString) (e : Event) (i accepting next : ℕ) (text : ByteString) (holds : Bool) →
     IsSoFar texts e i accepting → i < length texts → text ≡ slice_index_or texts i text → Says text e.fields holds →
     next ≡ (if holds then accepting + 2 ^ i else accepting) → IsSoFar texts e (i + 1) next
 so_far-more texts e i accepting next text holds so below is says more = record {
@@ -58,13 +58,13 @@ so_far-more texts e i accepting next text holds so below is says more = record {
       moved_on holds accepting next (2 ^ i) (port_bits (accepting_ports (i + 1) (drop (i + 1) tests) e))
       (port_bits (accepting_ports 0 tests e)) more (together _ _ _ _ _ _ (so.bits tests mean) split behind);
   meant = λ k before word there. elim (cases_eq k i) [
-    | inl same ↦ meant_by word e.fields holds (subst (λ (w : Word). Says w e.fields holds) (one_there texts i text word below is (subst (λ (n : ℕ). word ≡ slice_index_or texts n word) same there)) says)
+    | inl same ↦ meant_by word e.fields holds (subst (λ (w : ByteString). Says w e.fields holds) (one_there texts i text word below is (subst (λ (n : ℕ). word ≡ slice_index_or texts n word) same there)) says)
     | inr other ↦ so.meant k (grind (arith, nat_tests, other, before)) word there
   ];
 }
 
 -- behind all conditions the bits are whole
-pub so_far-all : (texts : List Word) (e : Event) (n accepting : ℕ) → IsSoFar texts e n accepting → n ≡ length texts →
+pub so_far-all : (texts : List ByteString) (e : Event) (n accepting : ℕ) → IsSoFar texts e n accepting → n ≡ length texts →
     (tests : List Test) → AllMean texts tests → accepting ≡ port_bits (accepting_ports 0 tests e)
 so_far-all texts e n accepting so is tests mean =
     let whole = so.bits tests mean in
@@ -88,5 +88,5 @@ route_ports-rerouted tests e n long none =
     omega arith
 
 -- and each of them means something
-pub so_far-meant : (texts : List Word) (e : Event) (n accepting : ℕ) → IsSoFar texts e n accepting → n ≡ length texts → (tests : List Test) × AllMean texts tests
+pub so_far-meant : (texts : List ByteString) (e : Event) (n accepting : ℕ) → IsSoFar texts e n accepting → n ≡ length texts → (tests : List Test) × AllMean texts tests
 so_far-meant texts e n accepting so is = all_meant texts (λ k below. so.meant k (omega (arith, is, below)))

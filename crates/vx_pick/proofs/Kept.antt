@@ -5,7 +5,7 @@ use Rattle.std.specs.List.{list_all}
 use Rattle.std.proofs.lemmas.Bool.{and_parts, and_from}
 use Rattle.std.proofs.lemmas.List.{map-append, take-append-drop, take_more}
 use Rattle.std.proofs.lemmas.List.Elements.{filter-append}
-use Rattle.vx_value.specs.Texts.{Word, text_lt}
+use Rattle.vx_value.specs.Texts.{ByteString, text_lt}
 use Rattle.vx_value.specs.Datum.{NamedDatum}
 use Rattle.vx_value.specs.Values.{named_datum}
 use Rattle.vx_value.specs.Events.{names_rise, last_below}
@@ -14,15 +14,15 @@ use Rattle.vx_value.proofs.Order.{text_lt-trans}
 use Rattle.vx_value.proofs.Rising.{names_rise-front}
 
 -- each name comes before a text
-abbrev all_below : List NamedDatum → Word → Bool
+abbrev all_below : List NamedDatum → ByteString → Bool
 all_below fs name = list_all (λ (g : NamedDatum). text_lt g.name name) fs
 
-below_last : (fs : List NamedDatum) (name : Word) → all_below fs name ≡ true → last_below fs name ≡ true
+below_last : (fs : List NamedDatum) (name : ByteString) → all_below fs name ≡ true → last_below fs name ≡ true
 below_last [] name all = refl
 below_last (f ∷ []) name all = (and_parts (text_lt f.name name) true all).0
 below_last (f ∷ g ∷ fs) name all = below_last (g ∷ fs) name (and_parts (text_lt f.name name) (all_below (g ∷ fs) name) all).1
 
-below_filtered : (p : NamedDatum → Bool) (fs : List NamedDatum) (name : Word) → all_below fs name ≡ true → all_below (filter p fs) name ≡ true
+below_filtered : (p : NamedDatum → Bool) (fs : List NamedDatum) (name : ByteString) → all_below fs name ≡ true → all_below (filter p fs) name ≡ true
 below_filtered p [] name all = refl
 below_filtered p (f ∷ fs) name all =
     let both = and_parts (text_lt f.name name) (all_below fs name) all in

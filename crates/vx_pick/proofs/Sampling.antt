@@ -2,7 +2,7 @@
 use Rattle.std.proofs.Common.{◌≡◌, ℕ, ◌+◌, ◌<◌, ◌^◌, Bool, true, false, not, cond, List, [], ◌∷◌, ◌++◌, Option, Some, None, sym, ◌∙◌, ap, subst, arith}
 use Rattle.std.specs.Prelude.{◌||◌, ◌==◌, ◌%◌, count_by, if◌then◌else◌}
 use Rattle.std.proofs.lemmas.List.Sums.{sum_by_push}
-use Rattle.vx_value.specs.Texts.{Word}
+use Rattle.vx_value.specs.Texts.{ByteString}
 use Rattle.vx_value.specs.declared.event.Event.{Event}
 use Rattle.vx_condition.specs.Conditions.{Says}
 use Rattle.vx_condition.specs.Steps.{Test}
@@ -36,10 +36,10 @@ pub counted_more : (old new : Sampler) (earlier : List Event) (e : Event) (exclu
     ((tests : List Test) → AllMean (if_any old.exclude) tests → excluded ≡ test_of old.exclude tests e) →
     new.counted ≡ (if excluded then old.counted else held (old.counted + 1)) → HasCounted old earlier → HasCounted new (earlier ++ e ∷ [])
 counted_more old new earlier e excluded same is counts counted tests mean =
-    subst (λ (x : Option Word). new.counted ≡ held (count_by (λ f. not (test_of x tests f)) (earlier ++ e ∷ []))) (sym same) here
+    subst (λ (x : Option ByteString). new.counted ≡ held (count_by (λ f. not (test_of x tests f)) (earlier ++ e ∷ []))) (sym same) here
   where
     meant : AllMean (if_any old.exclude) tests
-    meant = subst (λ (x : Option Word). AllMean (if_any x) tests) same mean
+    meant = subst (λ (x : Option ByteString). AllMean (if_any x) tests) same mean
 
     here : new.counted ≡ held (count_by (λ f. not (test_of old.exclude tests f)) (earlier ++ e ∷ []))
     here =
@@ -48,28 +48,28 @@ counted_more old new earlier e excluded same is counts counted tests mean =
         ∙ ap held (sym (sum_by_push (λ f. cond (not (test_of old.exclude tests f)) 1 0) earlier e))
 
 -- what a condition says of an event is what a test says that it means
-pub excluded_by : (exclude : Option Word) (text : Word) (e : Event) (holds : Bool) → exclude ≡ Some text → Says text e.fields holds →
+pub excluded_by : (exclude : Option ByteString) (text : ByteString) (e : Event) (holds : Bool) → exclude ≡ Some text → Says text e.fields holds →
     (tests : List Test) → AllMean (if_any exclude) tests → holds ≡ test_of exclude tests e
 excluded_by exclude text e holds is says tests mean =
-    subst (λ (x : Option Word). holds ≡ test_of x tests e) (sym is) (go tests (subst (λ (x : Option Word). AllMean (if_any x) tests) is mean))
+    subst (λ (x : Option ByteString). holds ≡ test_of x tests e) (sym is) (go tests (subst (λ (x : Option ByteString). AllMean (if_any x) tests) is mean))
   where
     go : (tests : List Test) → AllMean (text ∷ []) tests → holds ≡ test_of (Some text) tests e
     go [] m = absurd m
     go (test ∷ rest) m = one_answer text e.fields holds (test e) says (m.0 e)
 
 -- and it means something
-pub excluded_meant : (exclude : Option Word) (text : Word) (e : Event) (holds : Bool) → exclude ≡ Some text → Says text e.fields holds →
+pub excluded_meant : (exclude : Option ByteString) (text : ByteString) (e : Event) (holds : Bool) → exclude ≡ Some text → Says text e.fields holds →
     AreMeant (if_any exclude)
 excluded_meant exclude text e holds is says =
     let here = meant_by text e.fields holds says in
-    subst (λ (x : Option Word). AreMeant (if_any x)) (sym is) (here.0 ∷ [], (here.1, tt))
+    subst (λ (x : Option ByteString). AreMeant (if_any x)) (sym is) (here.0 ∷ [], (here.1, tt))
 
 -- without a condition nothing is excluded
-pub none_excluded : (exclude : Option Word) (e : Event) → exclude ≡ None → (tests : List Test) → false ≡ test_of exclude tests e
-none_excluded exclude e is tests = ap (λ (x : Option Word). test_of x tests e) (sym is)
+pub none_excluded : (exclude : Option ByteString) (e : Event) → exclude ≡ None → (tests : List Test) → false ≡ test_of exclude tests e
+none_excluded exclude e is tests = ap (λ (x : Option ByteString). test_of x tests e) (sym is)
 
-pub none_meant : (exclude : Option Word) → exclude ≡ None → AreMeant (if_any exclude)
-none_meant exclude is = subst (λ (x : Option Word). AreMeant (if_any x)) (sym is) ([], tt)
+pub none_meant : (exclude : Option ByteString) → exclude ≡ None → AreMeant (if_any exclude)
+none_meant exclude is = subst (λ (x : Option ByteString). AreMeant (if_any x)) (sym is) ([], tt)
 
 -- the bits are those of one port
 pub bit_below : (passes : Bool) (ports : ℕ) → ports ≡ (if passes then 1 else 0) → ports < 2 ^ 1

@@ -1,6 +1,6 @@
 -- What transforms that judge events do, by the settings of their components and by the events that came before.
 use Rattle.std.specs.Prelude.{◌≡◌, ℕ, List, Some, map}
-use Rattle.vx_value.specs.Texts.{Word}
+use Rattle.vx_value.specs.Texts.{ByteString}
 use Rattle.vx_value.specs.declared.event.Event.{Event}
 use Rattle.vx_condition.specs.Steps.{Test}
 use Rattle.vx_plan.specs.declared.route.Route.{Route as Way}
@@ -14,7 +14,7 @@ use Rattle.vx_pick.specs.Samplers.{HasCounted}
 use Rattle.vx_pick.specs.Dedupers.{HasSeen}
 
 -- some texts are conditions: each has a test that says of each event what it does
-abbrev pub AreMeant : List Word → Type 0
+abbrev pub AreMeant : List ByteString → Type 0
 AreMeant texts = (tests : List Test) × AllMean texts tests
 
 -- settings are what a transform does: its conditions are theirs, and with what no condition accepts, at which rate it samples, and how

@@ -123,7 +123,7 @@ fn is_among(names: &[Text], name: &str) -> bool
 }
 
 // Whether two texts are the same.
-#[tactic(auto, using(vx_value::proofs::Order::told_equal))]
+#[tactic(auto, using(vx_value::proofs::Order::answer_equal))]
 fn is_same(a: &str, b: &str) -> bool
     ensures { result ≡ same_text a.now b.now }
 {

@@ -25,9 +25,9 @@ pub struct Filter {
 }
 
 impl Model for Filter {
-    ghost use Rattle.vx_value.specs.Texts.{Word};
+    ghost use Rattle.vx_value.specs.Texts.{ByteString};
 
-    ghost Value = { Word };
+    ghost Value = { ByteString };
 
     ghost view = { λ f. f.condition };
 }

@@ -1,5 +1,5 @@
 ghost use Rattle.std.specs.Prelude.{◌≡◌, ◌+◌, ◌<◌, ◌≤◌, ◌^◌, ◌↔◌, ℕ, Option, None, List, [], ◌∷◌, length, OnOk, OnErr, IfOk, IfErr, IsOk};
-ghost use Rattle.vx_value.specs.Texts.{Word};
+ghost use Rattle.vx_value.specs.Texts.{ByteString};
 ghost use Rattle.vx_value.specs.declared.event.Event.{Event};
 ghost use Rattle.vx_condition.specs.Steps.{Test};
 ghost use Rattle.vx_condition.specs.Picking.{accepting_ports, route_ports};

@@ -110,10 +110,10 @@ left_filled event [] rest filled = absurd (filled refl)
 left_filled event (c ∷ cs) rest filled = refl
 
 -- a test for none tells whether there is none
-told_empty : (b : Bool) (xs : List Copy) → (b ≡ true) ↔ (xs ≡ []) → b ≡ is_empty xs
-told_empty b [] is = is.1 refl
-told_empty true (x ∷ xs) is = let none = is.0 refl in absurd (cc)
-told_empty false (x ∷ xs) is = refl
+observed_empty : (b : Bool) (xs : List Copy) → (b ≡ true) ↔ (xs ≡ []) → b ≡ is_empty xs
+observed_empty b [] is = is.1 refl
+observed_empty true (x ∷ xs) is = let none = is.0 refl in absurd (cc)
+observed_empty false (x ∷ xs) is = refl
 
 module _ (t k : ℕ) (cs : List Child) (c : Child) (first : NoneBefore t k cs) (at : c ≡ get_or cs k c) where
   is_for : c.target ≡ t
@@ -137,7 +137,7 @@ module _ (t k : ℕ) (cs : List Child) (c : Child) (first : NoneBefore t k cs) (
     rest = for_target t (remove cs k);
     was = oldest_is ∙ ap (λ (copies : List Copy). record { event = c.parcel.event; finalizers = copies } ∷ for_target t (remove cs k)) are;
     now = now;
-    alone = told_empty last left none;
+    alone = observed_empty last left none;
   }
 
   module _ (left : List Copy) where

@@ -11,7 +11,7 @@ use Rattle.vx_record.specs.Places.Place.{Outputs, Waiting, Contents, Held}
 use Rattle.vx_places.specs.declared.row.Row.{Row}
 use Rattle.vx_places.specs.Numbers.{parcels_out, for_target}
 use Rattle.vx_places.specs.Views.{row_at, stage_at, stage_items, held_items, here, here_if, outputs_if, parcels_here, Others, Same, AddsKeeper}
-use Rattle.vx_places.specs.Rooms.{stage_rooms, line_room, rooms_if, held_room_if, AddsRooms, AddsKeeperRooms}
+use Rattle.vx_places.specs.Capacities.{stage_capacities, line_capacity, capacities_if, held_capacity_if, AddsCapacities, AddsKeeperCapacities}
 use Rattle.vx_places.specs.Laws.{HeldSays}
 use Rattle.vx_places.specs.Looks.{AreEnded}
 use Rattle.vx_places.specs.Calls.{AreEmpty, IsNew, IsNewKeeper, IsRow, IsThere, IsLent, IsVacant, EachVacant, empty_stages}
@@ -19,39 +19,39 @@ use Rattle.vx_places.proofs.Written.{no_outputs}
 use Rattle.vx_places.proofs.Looking.{none_for, lent_unseen}
 
 -- STAGES THAT ARE MADE
-pub made_empty : (rooms : List ℕ) → AreEmpty (empty_stages rooms)
+pub made_empty : (capacities : List ℕ) → AreEmpty (empty_stages capacities)
 made_empty [] = tt
-made_empty (room ∷ rooms) = (refl, made_empty rooms)
+made_empty (room ∷ capacities) = (refl, made_empty capacities)
 
 -- one stage more
-pub stages_more : (rooms : List ℕ) (i : ℕ) (stage : Filled Parcel) → i < length rooms → stage.items ≡ [] → stage.room ≡ slice_index rooms i →
-    empty_stages (take (i + 1) rooms) ≡ empty_stages (take i rooms) ++ stage ∷ []
+pub stages_more : (capacities : List ℕ) (i : ℕ) (stage : Filled Parcel) → i < length capacities → stage.items ≡ [] → stage.room ≡ slice_index capacities i →
+    empty_stages (take (i + 1) capacities) ≡ empty_stages (take i capacities) ++ stage ∷ []
 stages_more [] i stage l none room = absurd (omega arith)
-stages_more (r ∷ rooms) zero stage l none room =
+stages_more (r ∷ capacities) zero stage l none room =
     sym (ap (λ (items : List Parcel). record { items = items; room = stage.room } ∷ []) none ∙ ap (λ (n : ℕ). record { items = []; room = n } ∷ []) room)
-stages_more (r ∷ rooms) (suc i) stage l none room =
+stages_more (r ∷ capacities) (suc i) stage l none room =
     let e : suc i + 1 ≡ suc (i + 1) = omega arith in
-    ap (λ (n : ℕ). empty_stages (take n (r ∷ rooms))) e ∙ ap (λ (ss : List (Filled Parcel)). record { items = []; room = r } ∷ ss) (stages_more rooms i stage (omega arith) none room)
+    ap (λ (n : ℕ). empty_stages (take n (r ∷ capacities))) e ∙ ap (λ (ss : List (Filled Parcel)). record { items = []; room = r } ∷ ss) (stages_more capacities i stage (omega arith) none room)
 
-no_items : (rooms : List ℕ) (s : ℕ) → stage_items (stage_at (empty_stages rooms) s) ≡ []
+no_items : (capacities : List ℕ) (s : ℕ) → stage_items (stage_at (empty_stages capacities) s) ≡ []
 no_items [] s = refl
-no_items (r ∷ rooms) zero = refl
-no_items (r ∷ rooms) (suc s) = no_items rooms s
+no_items (r ∷ capacities) zero = refl
+no_items (r ∷ capacities) (suc s) = no_items capacities s
 
-rooms_made : (rooms : List ℕ) → stage_rooms (empty_stages rooms) ≡ rooms
-rooms_made [] = refl
-rooms_made (room ∷ rooms) = ap (λ ns. room ∷ ns) (rooms_made rooms)
+capacities_made : (capacities : List ℕ) → stage_capacities (empty_stages capacities) ≡ capacities
+capacities_made [] = refl
+capacities_made (room ∷ capacities) = ap (λ ns. room ∷ ns) (capacities_made capacities)
 
 -- AN INSTANCE MORE, at which nothing stands
-none_held : (room : ℕ) (held : Option (Filled Parcel)) → IsSomeAnd held (λ h. (h.items ≡ []) × (h.room ≡ room)) → (held_items held ≡ Some []) × (line_room held ≡ Some room)
+none_held : (room : ℕ) (held : Option (Filled Parcel)) → IsSomeAnd held (λ h. (h.items ≡ []) × (h.room ≡ room)) → (held_items held ≡ Some []) × (line_capacity held ≡ Some room)
 none_held room None is = absurd is
 none_held room (Some h) is = (ap Some is.0, ap Some is.1)
 
-nothing_here : (rooms : List ℕ) (room : ℕ) (row : Row) → IsNew rooms room row → (p : Place) → here p row ≡ Some []
-nothing_here rooms room row is (Outputs i) = ap (λ os. Some (parcels_out os)) is.outputs
-nothing_here rooms room row is (Waiting i t) = ap (λ cs. Some (for_target t cs)) is.waiting
-nothing_here rooms room row is (Contents i s) = ap (λ ss. Some (stage_items (stage_at ss s))) is.stages ∙ ap Some (no_items rooms s)
-nothing_here rooms room row is (Held i) = (none_held room row.held is.held).0
+nothing_here : (capacities : List ℕ) (room : ℕ) (row : Row) → IsNew capacities room row → (p : Place) → here p row ≡ Some []
+nothing_here capacities room row is (Outputs i) = ap (λ os. Some (parcels_out os)) is.outputs
+nothing_here capacities room row is (Waiting i t) = ap (λ cs. Some (for_target t cs)) is.waiting
+nothing_here capacities room row is (Contents i s) = ap (λ ss. Some (stage_items (stage_at ss s))) is.stages ∙ ap Some (no_items capacities s)
+nothing_here capacities room row is (Held i) = (none_held room row.held is.held).0
 
 last_row : (rows : List Row) (row : Row) → row_at (rows ++ row ∷ []) (length rows) ≡ Some row
 last_row [] row = refl
@@ -62,9 +62,9 @@ first_rows [] row i l = absurd (omega arith)
 first_rows (r ∷ rows) row zero l = refl
 first_rows (r ∷ rows) row (suc i) l = first_rows rows row i (omega arith)
 
-module _ (rooms : List ℕ) (room : ℕ) (rows : List Row) (row : Row) (is : IsNew rooms room row) where
+module _ (capacities : List ℕ) (room : ℕ) (rows : List Row) (row : Row) (is : IsNew capacities room row) where
   pub added_same : Same rows (rows ++ row ∷ [])
-  added_same = record { here = λ p. go (here_if p) (nothing_here rooms room row is p) rows (owner p); outputs = go outputs_if is.outputs rows }
+  added_same = record { here = λ p. go (here_if p) (nothing_here capacities room row is p) rows (owner p); outputs = go outputs_if is.outputs rows }
     where
       go : {X : Type 0} (F : Option Row → X) → F (Some row) ≡ F None → (rs : List Row) (k : ℕ) → F (row_at (rs ++ row ∷ []) k) ≡ F (row_at rs k)
       go F none [] zero = none
@@ -72,18 +72,18 @@ module _ (rooms : List ℕ) (room : ℕ) (rows : List Row) (row : Row) (is : IsN
       go F none (r ∷ rs) zero = refl
       go F none (r ∷ rs) (suc k) = go F none rs k
 
-  pub added_row : IsRow (IsNew rooms room) (rows ++ row ∷ []) (length rows)
+  pub added_row : IsRow (IsNew capacities room) (rows ++ row ∷ []) (length rows)
   added_row = rw (last_row rows row) is
 
-  pub rooms_added : AddsRooms rooms room rows (rows ++ row ∷ [])
-  rooms_added = record {
-    stages = ap rooms_if (last_row rows row) ∙ ap stage_rooms is.stages ∙ rooms_made rooms;
-    held = ap held_room_if (last_row rows row) ∙ (none_held room row.held is.held).1;
-    others = λ i l. (ap rooms_if (first_rows rows row i l), ap held_room_if (first_rows rows row i l));
+  pub capacities_added : AddsCapacities capacities room rows (rows ++ row ∷ [])
+  capacities_added = record {
+    stages = ap capacities_if (last_row rows row) ∙ ap stage_capacities is.stages ∙ capacities_made capacities;
+    held = ap held_capacity_if (last_row rows row) ∙ (none_held room row.held is.held).1;
+    others = λ i l. (ap capacities_if (first_rows rows row i l), ap held_capacity_if (first_rows rows row i l));
   }
 
 -- AN INSTANCE MORE, which has a keeper
-module _ (rooms : List ℕ) (rows : List Row) (row : Row) (is : IsNewKeeper rooms row) where
+module _ (capacities : List ℕ) (rows : List Row) (row : Row) (is : IsNewKeeper capacities row) where
   -- what is so of the new row as of none is so of each place as before
   with_more : {X : Type 0} (F : Option Row → X) (rs : List Row) (k : ℕ) → (k ≡ length rs → F (Some row) ≡ F None) → F (row_at (rs ++ row ∷ []) k) ≡ F (row_at rs k)
   with_more F [] zero same = same refl
@@ -94,7 +94,7 @@ module _ (rooms : List ℕ) (rows : List Row) (row : Row) (is : IsNewKeeper room
   others : Others (Held (length rows)) rows (rows ++ row ∷ [])
   others (Outputs i) other = with_more (here_if (Outputs i)) rows i (λ _. ap (λ os. Some (parcels_out os)) is.outputs)
   others (Waiting i t) other = with_more (here_if (Waiting i t)) rows i (λ _. ap (λ cs. Some (for_target t cs)) is.waiting)
-  others (Contents i s) other = with_more (here_if (Contents i s)) rows i (λ _. ap (λ ss. Some (stage_items (stage_at ss s))) is.stages ∙ ap Some (no_items rooms s))
+  others (Contents i s) other = with_more (here_if (Contents i s)) rows i (λ _. ap (λ ss. Some (stage_items (stage_at ss s))) is.stages ∙ ap Some (no_items capacities s))
   others (Held i) other = with_more (here_if (Held i)) rows i (λ same. absurd (grind (arith, nat_tests, other, same)))
 
   pub keeper_added : AddsKeeper rows (rows ++ row ∷ [])
@@ -104,14 +104,14 @@ module _ (rooms : List ℕ) (rows : List Row) (row : Row) (is : IsNewKeeper room
     outputs = λ i. with_more outputs_if rows i (λ _. is.outputs);
   }
 
-  pub keeper_row : IsRow (IsNewKeeper rooms) (rows ++ row ∷ []) (length rows)
+  pub keeper_row : IsRow (IsNewKeeper capacities) (rows ++ row ∷ []) (length rows)
   keeper_row = rw (last_row rows row) is
 
-  pub keeper_rooms : AddsKeeperRooms rooms rows (rows ++ row ∷ [])
-  keeper_rooms = record {
-    stages = ap rooms_if (last_row rows row) ∙ ap stage_rooms is.stages ∙ rooms_made rooms;
-    held = ap held_room_if (last_row rows row) ∙ ap line_room is.held;
-    others = λ i l. (ap rooms_if (first_rows rows row i l), ap held_room_if (first_rows rows row i l));
+  pub keeper_capacities : AddsKeeperCapacities capacities rows (rows ++ row ∷ [])
+  keeper_capacities = record {
+    stages = ap capacities_if (last_row rows row) ∙ ap stage_capacities is.stages ∙ capacities_made capacities;
+    held = ap held_capacity_if (last_row rows row) ∙ ap line_capacity is.held;
+    others = λ i l. (ap capacities_if (first_rows rows row i l), ap held_capacity_if (first_rows rows row i l));
   }
 
 -- WHAT IS LENT

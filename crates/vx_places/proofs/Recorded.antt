@@ -14,7 +14,7 @@ use Rattle.vx_record.specs.Places.Place.{Outputs, Waiting, Contents, Held}
 use Rattle.vx_record.specs.Lists.{stands, parcels_at, all_waiting, buffered, is_child_of, is_stage_of, places, times_among}
 use Rattle.vx_record.specs.Legal.{IsLegal}
 use Rattle.vx_record.proofs.Changes.{NoneEmpty, none_empty, same_place_is, same_place_self, places_meant}
-use Rattle.vx_record.proofs.Hands.{times_some}
+use Rattle.vx_record.proofs.HeldCopies.{times_some}
 use Rattle.vx_record.proofs.OnePlace.{live_stands}
 use Rattle.vx_record.proofs.Shifting.{stands_at}
 use Rattle.vx_record.proofs.Vacant.{Sent, where_none, none_where, empty_is, is_empty_of, sent_of, is_sent_of, bare_of, bare_sent, bare_unfilled}
@@ -168,13 +168,13 @@ pub bare_is_bare : BareIs
 bare_is_bare h rows i legal holds = (
   λ bare. bare_of h i (sent h rows legal holds i (bare (Outputs i) refl, λ t. bare (Waiting i t) refl)) (record {
     buffer = λ s. none h rows legal holds (Contents i s) (bare (Contents i s) refl);
-    hands = none h rows legal holds (Held i) (bare (Held i) refl);
+    holdings = none h rows legal holds (Held i) (bare (Held i) refl);
   }),
   λ kept bare.
       let rest = bare_unfilled h i bare in
       bare_is rows i (sent_there h rows legal holds i (bare_sent h i bare))
       (λ s. none_there h rows legal holds (Contents i s) (seen (Contents i s) (row_at rows i) tt) (rest.buffer s))
-      (none_there h rows legal holds (Held i) (held_seen i (row_at rows i) kept) rest.hands),
+      (none_there h rows legal holds (Held i) (held_seen i (row_at rows i) kept) rest.holdings),
 )
 
 pub clear_is_clear : ClearIs
@@ -185,12 +185,12 @@ clear_is_clear h rows i legal holds = (
 
 pub clear_bare_is : ClearBareIs
 clear_bare_is h rows i legal holds = (
-  λ is. bare_of h i (sent h rows legal holds i (clear_sent rows i is.0)) (record { buffer = λ s. none h rows legal holds (Contents i s) (is.0 (Contents i s) refl refl); hands = is.1 }),
+  λ is. bare_of h i (sent h rows legal holds i (clear_sent rows i is.0)) (record { buffer = λ s. none h rows legal holds (Contents i s) (is.0 (Contents i s) refl refl); holdings = is.1 }),
   λ bare.
       let rest = bare_unfilled h i bare in (
         clear_is rows i (sent_there h rows legal holds i (bare_sent h i bare))
             (λ s. none_there h rows legal holds (Contents i s) (seen (Contents i s) (row_at rows i) tt) (rest.buffer s)),
-        rest.hands,
+        rest.holdings,
       ),
 )
 

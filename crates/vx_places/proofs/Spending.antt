@@ -19,7 +19,7 @@ use Rattle.vx_record.specs.Shifts.{shift, at}
 use Rattle.vx_record.specs.Legal.{IsLegal}
 use Rattle.vx_record.proofs.Changes.{NoneEmpty, none_empty, shrunk-none, stands_once}
 use Rattle.vx_record.proofs.Counts.{count-append}
-use Rattle.vx_record.proofs.Hands.{AreAt, others_stay}
+use Rattle.vx_record.proofs.HeldCopies.{AreAt, others_stay}
 use Rattle.vx_record.proofs.OnePlace.{conserved}
 use Rattle.vx_record.proofs.Shifting.{stands_at}
 use Rattle.vx_places.specs.declared.row.Row.{Row}

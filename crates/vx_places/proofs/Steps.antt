@@ -28,7 +28,7 @@ use Rattle.vx_record.proofs.Changes.{same_place_self, same_place_is}
 use Rattle.vx_record.proofs.Answers.{count-shrunk}
 use Rattle.vx_record.proofs.Counts.{count-append, unless-some}
 use Rattle.vx_record.proofs.Events.{said_before}
-use Rattle.vx_record.proofs.Hands.{not_there}
+use Rattle.vx_record.proofs.HeldCopies.{not_there}
 use Rattle.vx_record.proofs.Live.{if_lt}
 use Rattle.vx_record.proofs.OnePlace.{conserved}
 use Rattle.vx_record.proofs.Shifting.{stands_at}

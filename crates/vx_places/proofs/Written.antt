@@ -1,4 +1,4 @@
--- What stands at each place, and which rooms there are, when one row is written.
+-- What stands at each place, and which capacities there are, when one row is written.
 use Rattle.std.proofs.Common.{◌≡◌, ℕ, zero, suc, ◌<◌, Bool, true, false, List, [], ◌∷◌, ◌++◌, length, get_or, refl, sym, ap, ◌∙◌, arith, Option, Some, None, IfNone, subst}
 use Rattle.std.specs.Prelude.{slice_set, ◌==◌, IsNone, IsSomeAnd, ◌↔◌, ◌≤◌, not}
 use Rattle.std.specs.List.{slice_get}
@@ -22,7 +22,7 @@ use Rattle.vx_record.proofs.Changes.{same_place_is}
 use Rattle.vx_places.specs.declared.row.Row.{Row}
 use Rattle.vx_places.specs.Numbers.{parcels_out, for_target}
 use Rattle.vx_places.specs.Views.{row_at, stage_at, stage_items, held_items, here, here_if, parcels_here, outputs_if, outputs_here, Others, Same, SameOutputs, KeepsPorts}
-use Rattle.vx_places.specs.Rooms.{stage_rooms, line_room, rooms_if, held_room_if, SameRooms, LendsRoom}
+use Rattle.vx_places.specs.Capacities.{stage_capacities, line_capacity, capacities_if, held_capacity_if, SameCapacities, LendsCapacity}
 use Rattle.vx_places.specs.Calls.{Takes, TakesOutput, Puts, Waits, Lends, Loses, LosesCopy, IsRow}
 
 -- SMALL FACTS
@@ -149,8 +149,8 @@ pub lends : {i : ℕ} {a b : Option (List Parcel)} {old new : List Row} → Chan
     (parcels : List Parcel) → a ≡ Some parcels → b ≡ None → Lends i parcels old new
 lends c parcels was now = record { was = c.was ∙ was; now = c.now ∙ now; others = c.others; outputs = λ j. c.outputs j refl }
 
-pub same_rooms_then : (old mid new : List Row) → SameRooms old mid → SameRooms mid new → SameRooms old new
-same_rooms_then old mid new first then i = ((then i).0 ∙ (first i).0, (then i).1 ∙ (first i).1)
+pub same_capacities_then : (old mid new : List Row) → SameCapacities old mid → SameCapacities mid new → SameCapacities old new
+same_capacities_then old mid new first then i = ((then i).0 ∙ (first i).0, (then i).1 ∙ (first i).1)
 
 -- A ROW THAT IS WRITTEN
 module _ (rows : List Row) (i : ℕ) (row : Row) (l : i < length rows) (at : row ≡ get_or rows i row) where
@@ -278,34 +278,34 @@ module _ (rows : List Row) (i : ℕ) (row : Row) (l : i < length rows) (at : row
         (ap (slice_set row.stages.items s) (same ∙ got) ∙ set-get_or row.stages.items s stage))
         ∙ ap (slice_set rows i) at ∙ set-get_or rows i row
 
-  -- where the row has the rooms that it had, all are what they were
-  pub rooms_kept : (new : Row) → stage_rooms new.stages.items ≡ stage_rooms row.stages.items → line_room new.held ≡ line_room row.held →
-      SameRooms rows (slice_set rows i new)
-  rooms_kept new stages held j = (kept_but rooms_if rows i row new at j (λ _. stages), kept_but held_room_if rows i row new at j (λ _. held))
+  -- where the row has the capacities that it had, all are what they were
+  pub capacities_kept : (new : Row) → stage_capacities new.stages.items ≡ stage_capacities row.stages.items → line_capacity new.held ≡ line_capacity row.held →
+      SameCapacities rows (slice_set rows i new)
+  capacities_kept new stages held j = (kept_but capacities_if rows i row new at j (λ _. stages), kept_but held_capacity_if rows i row new at j (λ _. held))
 
-  pub stage_room_kept : (s : ℕ) (stage new : Filled Parcel) → stage ≡ get_or row.stages.items s stage → new.room ≡ stage.room →
-      SameRooms rows (slice_set rows i (record row { stages = with_item row.stages s new }))
-  stage_room_kept s stage new got same = rooms_kept (record row { stages = with_item row.stages s new })
+  pub stage_capacity_kept : (s : ℕ) (stage new : Filled Parcel) → stage ≡ get_or row.stages.items s stage → new.room ≡ stage.room →
+      SameCapacities rows (slice_set rows i (record row { stages = with_item row.stages s new }))
+  stage_capacity_kept s stage new got same = capacities_kept (record row { stages = with_item row.stages s new })
       (map-set_same (λ (f : Filled Parcel). f.room) row.stages.items s new stage (same ∙ ap (λ (f : Filled Parcel). f.room) got)) refl
 
-  pub held_room_kept : (old new : Filled Parcel) → row.held ≡ Some old → new.room ≡ old.room → SameRooms rows (slice_set rows i (record row { held = Some new }))
-  held_room_kept old new there same = rooms_kept (record row { held = Some new }) refl (ap Some same ∙ ap line_room (sym there))
+  pub held_capacity_kept : (old new : Filled Parcel) → row.held ≡ Some old → new.room ≡ old.room → SameCapacities rows (slice_set rows i (record row { held = Some new }))
+  held_capacity_kept old new there same = capacities_kept (record row { held = Some new }) refl (ap Some same ∙ ap line_capacity (sym there))
 
   -- what is held is lent, or comes back, with its room
-  pub room_lent : (o : Option (Filled Parcel)) (room : ℕ) → line_room row.held ≡ Some room → line_room o ≡ None →
-      LendsRoom i room rows (slice_set rows i (record row { held = o }))
-  room_lent o room was now = record {
-    was = ap held_room_if (read rows i row l at) ∙ was;
-    now = ap held_room_if (written rows i (record row { held = o }) l) ∙ now;
-    others = λ j other. kept_but held_room_if rows i row (record row { held = o }) at j (λ same. absurd (other same));
-    stages = λ j. kept_but rooms_if rows i row (record row { held = o }) at j (λ _. refl);
+  pub capacity_lent : (o : Option (Filled Parcel)) (room : ℕ) → line_capacity row.held ≡ Some room → line_capacity o ≡ None →
+      LendsCapacity i room rows (slice_set rows i (record row { held = o }))
+  capacity_lent o room was now = record {
+    was = ap held_capacity_if (read rows i row l at) ∙ was;
+    now = ap held_capacity_if (written rows i (record row { held = o }) l) ∙ now;
+    others = λ j other. kept_but held_capacity_if rows i row (record row { held = o }) at j (λ same. absurd (other same));
+    stages = λ j. kept_but capacities_if rows i row (record row { held = o }) at j (λ _. refl);
   }
 
-  pub room_back : (o : Option (Filled Parcel)) (room : ℕ) → line_room row.held ≡ None → line_room o ≡ Some room →
-      LendsRoom i room (slice_set rows i (record row { held = o })) rows
-  room_back o room was now = record {
-    was = ap held_room_if (written rows i (record row { held = o }) l) ∙ now;
-    now = ap held_room_if (read rows i row l at) ∙ was;
-    others = λ j other. sym (kept_but held_room_if rows i row (record row { held = o }) at j (λ same. absurd (other same)));
-    stages = λ j. sym (kept_but rooms_if rows i row (record row { held = o }) at j (λ _. refl));
+  pub capacity_back : (o : Option (Filled Parcel)) (room : ℕ) → line_capacity row.held ≡ None → line_capacity o ≡ Some room →
+      LendsCapacity i room (slice_set rows i (record row { held = o })) rows
+  capacity_back o room was now = record {
+    was = ap held_capacity_if (written rows i (record row { held = o }) l) ∙ now;
+    now = ap held_capacity_if (read rows i row l at) ∙ was;
+    others = λ j other. sym (kept_but held_capacity_if rows i row (record row { held = o }) at j (λ same. absurd (other same)));
+    stages = λ j. sym (kept_but capacities_if rows i row (record row { held = o }) at j (λ _. refl));
   }

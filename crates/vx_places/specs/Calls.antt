@@ -17,7 +17,7 @@ use Rattle.vx_record.specs.Lists.{is_child_of}
 use Rattle.vx_places.specs.declared.row.Row.{Row}
 use Rattle.vx_places.specs.Numbers.{for_target, numbers, noted, parcels_in, parcels_out, AreNoted, AreOn, EachFilled}
 use Rattle.vx_places.specs.Views.{row_at, stage_at, parcels_here, outputs_here, Others, SameOutputs, KeepsPorts}
-use Rattle.vx_places.specs.Rooms.{held_room}
+use Rattle.vx_places.specs.Capacities.{held_capacity}
 use Rattle.vx_places.specs.Holding.{Shifts}
 
 -- the oldest parcel of a place is taken from it
@@ -177,12 +177,12 @@ IsLent rows i = IsRow (λ row. row.held ≡ None) rows i
 
 -- it is not lent, and there is room for one more parcel
 abbrev pub HasHeldRoom : List Row → ℕ → Type 0
-HasHeldRoom rows i = IsSomeAnd (parcels_here rows (Held i)) (λ parcels. IsSomeAnd (held_room rows i) (λ room. length parcels < room))
+HasHeldRoom rows i = IsSomeAnd (parcels_here rows (Held i)) (λ parcels. IsSomeAnd (held_capacity rows i) (λ room. length parcels < room))
 
--- empty stages with these rooms
+-- empty stages of these capacities
 abbrev pub empty_stages : List ℕ → List (Filled Parcel)
 empty_stages [] = []
-empty_stages (room ∷ rooms) = record { items = []; room = room } ∷ empty_stages rooms
+empty_stages (room ∷ capacities) = record { items = []; room = room } ∷ empty_stages capacities
 
 -- each stage is empty
 abbrev pub AreEmpty : List (Filled Parcel) → Type 0
@@ -201,16 +201,16 @@ abbrev pub EachVacant : List Row → Type 0
 EachVacant [] = Unit {0}
 EachVacant (row ∷ rows) = IsVacant row × EachVacant rows
 
--- nothing stands at an instance, its stages have these rooms, and there is so much room for what it holds
-pub record IsNew (rooms : List ℕ) (room : ℕ) (row : Row) : Type 0 where
+-- nothing stands at an instance, its stages have these capacities, and there is so much room for what it holds
+pub record IsNew (capacities : List ℕ) (room : ℕ) (row : Row) : Type 0 where
   pub outputs : row.outputs.items ≡ []
   pub waiting : row.waiting.items ≡ []
-  pub stages : row.stages.items ≡ empty_stages rooms
+  pub stages : row.stages.items ≡ empty_stages capacities
   pub held : IsSomeAnd row.held (λ held. (held.items ≡ []) × (held.room ≡ room))
 
--- nothing stands at an instance, its stages have these rooms, and what it holds is lent from the beginning
-pub record IsNewKeeper (rooms : List ℕ) (row : Row) : Type 0 where
+-- nothing stands at an instance, its stages have these capacities, and what it holds is lent from the beginning
+pub record IsNewKeeper (capacities : List ℕ) (row : Row) : Type 0 where
   pub outputs : row.outputs.items ≡ []
   pub waiting : row.waiting.items ≡ []
-  pub stages : row.stages.items ≡ empty_stages rooms
+  pub stages : row.stages.items ≡ empty_stages capacities
   pub held : row.held ≡ None

@@ -22,7 +22,7 @@ use Rattle.vx_record.specs.Legal.{IsLegal}
 use Rattle.vx_places.specs.declared.row.Row.{Row}
 use Rattle.vx_places.specs.Numbers.{numbers, EachFilled}
 use Rattle.vx_places.specs.Views.{Same, AddsKeeper, parcels_here, outputs_here}
-use Rattle.vx_places.specs.Rooms.{rooms_at}
+use Rattle.vx_places.specs.Capacities.{capacities_at}
 use Rattle.vx_places.specs.Holding.{Holds, Shifts, AreKnown}
 use Rattle.vx_places.specs.Calls.{Takes, TakesOutput, Lends, Loses, IsThere, IsKept, IsLent, NoneWaits, HasSome}
 use Rattle.vx_places.specs.Looks.{HasOutput, HasWaiting, HasSent, HasEmptyBuffer, HoldsMany, IsBare, IsClear, IsEnded, IsFirstRoom, IsFirstFilled}
@@ -151,16 +151,16 @@ ClearBareIs = (h : Record) (rows : List Row) (i : ℕ) → IsLegal h → Holds r
 abbrev pub EndedWhere : Type 0
 EndedWhere = (rows : List Row) (i : ℕ) → (IsBare rows i → IsEnded rows i) × (IsClear rows i → IsLent rows i → IsEnded rows i)
 
--- the first stage with room is the record's where their rooms are those that the plan gives them,
+-- the first stage with room is the record's where their capacities are those that the plan gives them,
 abbrev pub FirstRoomIs : Type 0
 FirstRoomIs =
-    (h : Record) (rows : List Row) (t : ℕ) (answer : Option ℕ) → IsLegal h → Holds rows h → rooms_at rows t ≡ map (λ (stage : Stage). stage.max_events) (stages_of h t) →
+    (h : Record) (rows : List Row) (t : ℕ) (answer : Option ℕ) → IsLegal h → Holds rows h → capacities_at rows t ≡ map (λ (stage : Stage). stage.max_events) (stages_of h t) →
     IsFirstRoom rows t answer → first_room h t ≡ answer
 
 -- and the first with a parcel where there are as many
 abbrev pub FirstFilledIs : Type 0
 FirstFilledIs =
-    (h : Record) (rows : List Row) (i : ℕ) (answer : Option ℕ) → IsLegal h → Holds rows h → length (rooms_at rows i) ≡ length (stages_of h i) →
+    (h : Record) (rows : List Row) (i : ℕ) (answer : Option ℕ) → IsLegal h → Holds rows h → length (capacities_at rows i) ≡ length (stages_of h i) →
     IsFirstFilled rows i answer → first_filled h i ≡ answer
 
 -- no parcel at a place of a legal record is empty

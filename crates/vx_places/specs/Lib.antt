@@ -1,6 +1,6 @@
 pub mod Numbers
 pub mod Views
-pub mod Rooms
+pub mod Capacities
 pub mod Holding
 pub mod Calls
 pub mod Looks

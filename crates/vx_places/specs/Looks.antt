@@ -4,7 +4,7 @@ use Rattle.vx_record.specs.Places.{Place, owner, same_place}
 use Rattle.vx_record.specs.Places.Place.{Outputs, Waiting, Contents, Held}
 use Rattle.vx_places.specs.declared.row.Row.{Row}
 use Rattle.vx_places.specs.Views.{parcels_here}
-use Rattle.vx_places.specs.Rooms.{held_room}
+use Rattle.vx_places.specs.Capacities.{held_capacity}
 use Rattle.vx_places.specs.Calls.{IsThere, IsRow, HasRoom, HasSome}
 
 -- an instance has an output
@@ -33,7 +33,7 @@ HoldsMany rows i n = IsSomeAnd (parcels_here rows (Held i)) (λ parcels. n ≡ l
 
 -- it holds as many as there is room for
 abbrev pub IsHeldFull : List Row → ℕ → Type 0
-IsHeldFull rows i = IsSomeAnd (parcels_here rows (Held i)) (λ parcels. held_room rows i ≡ Some (length parcels))
+IsHeldFull rows i = IsSomeAnd (parcels_here rows (Held i)) (λ parcels. held_capacity rows i ≡ Some (length parcels))
 
 -- nothing stands at any of its places, and nothing is lent
 abbrev pub IsBare : List Row → ℕ → Type 0

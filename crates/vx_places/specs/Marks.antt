@@ -6,7 +6,7 @@ use Rattle.vx_places.specs.declared.marks.Marks.{Marks}
 use Rattle.vx_places.specs.Views.{parcels_here}
 use Rattle.vx_places.specs.Looks.{HasSent, HasEmptyBuffer}
 
--- nothing stands in the buffer of an instance, and it holds nothing, which isn't lent
+-- nothing stands in the buffer of an instance, it holds nothing, and nothing that it holds is lent
 abbrev pub IsUnfilled : List Row → ℕ → Type 0
 IsUnfilled rows i = HasEmptyBuffer rows i × (parcels_here rows (Held i) ≡ Some [])
 

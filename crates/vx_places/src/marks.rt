@@ -9,8 +9,8 @@ use memchr::memchr;
 /// The byte of an instance that is marked.
 pub(crate) const MARKED: u8 = 1;
 
-/// Two marks for each instance: whether it may have an output or a waiting child, and whether something may stand in its buffer or its
-/// hand.
+/// Two marks for each instance: whether it may have an output or a waiting child, and whether something may stand in its buffer or
+/// among what it holds.
 #[derive(Drop)]
 pub struct Marks {
     pub unsent: Vec<u8>,

@@ -4,7 +4,7 @@ ghost use Rattle.vx_record.specs.Places.Place.{Outputs, Waiting, Contents, Held}
 ghost use Rattle.vx_ledger.specs.Copies.{numbers_of};
 ghost use Rattle.vx_places.specs.Holding.{Shifts};
 ghost use Rattle.vx_places.specs.Views.{Same, AddsKeeper, parcels_here};
-ghost use Rattle.vx_places.specs.Rooms.{SameRooms, LendsRoom, AddsRooms, AddsKeeperRooms};
+ghost use Rattle.vx_places.specs.Capacities.{SameCapacities, LendsCapacity, AddsCapacities, AddsKeeperCapacities};
 ghost use Rattle.vx_places.specs.Calls.{Takes, TakesOutput, Lends, Loses, IsRow, IsNew, IsNewKeeper, Moves, PutsOut, Divides, IsThere, HasOutputRoom, HasOutputRoomFor, NoneWaits, IsOldestFor, HasRoom, HasSome, IsKept, IsLent, HasHeldRoom, NothingToSpend, waiting_target};
 ghost use Rattle.vx_places.specs.Marks.{IsBefore, IsUnfilled};
 ghost use Rattle.vx_places.specs.Looks.{HasOutput, HasWaiting, HasSent, HasEmptyBuffer, ManyWait, HoldsMany, IsHeldFull, IsBare, IsClear, IsFirstRoom, IsFirstFilled, AreEnded};
@@ -67,19 +67,24 @@ impl Places {
         self.rows.len()
     }
 
-    /// Adds an instance at which nothing stands, with a buffer of stages that have these rooms, and with room for so many parcels
+    /// Adds an instance at which nothing stands, with a buffer of stages of these capacities, and with room for so many parcels
     /// that it holds. For want of memory nothing has changed.
-    pub fn add(&mut self, alloc: Global, rooms: &[usize], held: usize) -> Result<(), WantOfMemory>
+    pub fn add(
+        &mut self,
+        alloc: Global,
+        capacities: &[usize],
+        held: usize,
+    ) -> Result<(), WantOfMemory>
         ensures same { OnOk result (Same self.old self.new) }
         ensures size { OnOk result (length self.new ≡ length self.old + 1) }
-        ensures fresh { OnOk result (IsRow (IsNew rooms.now held) self.new (length self.old)) }
-        ensures rooms { OnOk result (AddsRooms rooms.now held self.old self.new) }
+        ensures fresh { OnOk result (IsRow (IsNew capacities.now held) self.new (length self.old)) }
+        ensures capacities { OnOk result (AddsCapacities capacities.now held self.old self.new) }
         ensures unchanged { OnErr result (self.new ≡ self.old) }
     {
         self.rows.reserve(1)?;
         self.marks.unsent.reserve(1)?;
         self.marks.filled.reserve(1)?;
-        let row = make_row(alloc, rooms, held)?;
+        let row = make_row(alloc, capacities, held)?;
         self.rows.push_reserved(row);
         self.marks.unsent.push_reserved(0);
         self.marks.filled.push_reserved(0);
@@ -88,17 +93,17 @@ impl Places {
 
     /// Adds an instance as `add` does, but with a keeper elsewhere, which has what it holds: here that is lent for ever. What it takes
     /// is taken away. For want of memory nothing has changed.
-    pub fn add_keeper(&mut self, alloc: Global, rooms: &[usize]) -> Result<(), WantOfMemory>
+    pub fn add_keeper(&mut self, alloc: Global, capacities: &[usize]) -> Result<(), WantOfMemory>
         ensures adds { OnOk result (AddsKeeper self.old self.new) }
         ensures size { OnOk result (length self.new ≡ length self.old + 1) }
-        ensures fresh { OnOk result (IsRow (IsNewKeeper rooms.now) self.new (length self.old)) }
-        ensures rooms { OnOk result (AddsKeeperRooms rooms.now self.old self.new) }
+        ensures fresh { OnOk result (IsRow (IsNewKeeper capacities.now) self.new (length self.old)) }
+        ensures capacities { OnOk result (AddsKeeperCapacities capacities.now self.old self.new) }
         ensures unchanged { OnErr result (self.new ≡ self.old) }
     {
         self.rows.reserve(1)?;
         self.marks.unsent.reserve(1)?;
         self.marks.filled.reserve(1)?;
-        let row = make_keeper_row(alloc, rooms)?;
+        let row = make_keeper_row(alloc, capacities)?;
         self.rows.push_reserved(row);
         self.marks.unsent.push_reserved(0);
         self.marks.filled.push_reserved(MARKED);
@@ -259,7 +264,7 @@ impl Places {
         marks::next_marked(&self.marks.unsent, from)
     }
 
-    /// The next instance, from a number on, in whose buffer or hand something may stand. `None` where none may.
+    /// The next instance, from a number on, in whose buffer or among whose held parcels something may stand. `None` where none may.
     ///
     /// While what an instance holds is lent something may stand there, and so it is among them: one with a keeper is each time.
     pub fn next_filled(&self, from: usize) -> Option<usize>
@@ -277,7 +282,7 @@ impl Places {
         ensures same { Same self.old self.new }
         ensures room { OnOk result (HasOutputRoomFor self.new instance n) }
         ensures size { length self.new ≡ length self.old }
-        ensures rooms { SameRooms self.old self.new }
+        ensures capacities { SameCapacities self.old self.new }
         ensures unchanged { OnErr result (self.new ≡ self.old) }
     {
         rows::reserve_outputs(&mut self.rows, instance as usize, n)
@@ -289,7 +294,7 @@ impl Places {
         requires room { HasOutputRoomFor self.old instance (length outputs) }
         ensures puts { PutsOut instance outputs self.old self.new }
         ensures size { length self.new ≡ length self.old }
-        ensures rooms { SameRooms self.old self.new }
+        ensures capacities { SameCapacities self.old self.new }
     {
         rows::append_outputs(&mut self.rows, instance as usize, outputs);
         marks::mark(&self.rows, &mut self.marks, instance as usize);
@@ -303,7 +308,7 @@ impl Places {
         ensures output { IfSome result (λ output. TakesOutput instance output self.old self.new) }
         ensures room { IfSome result (λ _. HasOutputRoom self.new instance) }
         ensures size { length self.new ≡ length self.old }
-        ensures rooms { SameRooms self.old self.new }
+        ensures capacities { SameCapacities self.old self.new }
         ensures none { IfNone result (self.new ≡ self.old) }
         ensures empty { IfNone result (parcels_here self.old (Outputs instance) ≡ Some []) }
     {
@@ -319,7 +324,7 @@ impl Places {
         ensures takes { Takes (Outputs instance) output.parcel self.new self.old }
         ensures output { TakesOutput instance output self.new self.old }
         ensures size { length self.new ≡ length self.old }
-        ensures rooms { SameRooms self.old self.new }
+        ensures capacities { SameCapacities self.old self.new }
     {
         rows::unpop_output(&mut self.rows, instance as usize, output);
         marks::mark(&self.rows, &mut self.marks, instance as usize);
@@ -332,7 +337,7 @@ impl Places {
         ensures empty { result.items ≡ [] }
         ensures same { Same self.old self.new }
         ensures size { length self.new ≡ length self.old }
-        ensures rooms { SameRooms self.old self.new }
+        ensures capacities { SameCapacities self.old self.new }
     {
         rows::take_child_room(&mut self.rows, instance as usize)
     }
@@ -343,7 +348,7 @@ impl Places {
         requires none { NoneWaits self.old instance }
         ensures divides { Divides instance children self.old self.new }
         ensures size { length self.new ≡ length self.old }
-        ensures rooms { SameRooms self.old self.new }
+        ensures capacities { SameCapacities self.old self.new }
     {
         rows::put_children(&mut self.rows, instance as usize, children);
         marks::mark(&self.rows, &mut self.marks, instance as usize);
@@ -358,7 +363,7 @@ impl Places {
         ensures moves { Moves (Push instance target stage) (Waiting instance target)
             (Contents target stage) self.old self.new }
         ensures size { length self.new ≡ length self.old }
-        ensures rooms { SameRooms self.old self.new }
+        ensures capacities { SameCapacities self.old self.new }
     {
         let parcel = rows::take_child(&mut self.rows, instance as usize, child, target);
         marks::mark(&self.rows, &mut self.marks, instance as usize);
@@ -375,7 +380,7 @@ impl Places {
         ensures moves { Moves (Take instance stage) (Contents instance stage)
             (Held instance) self.old self.new }
         ensures size { length self.new ≡ length self.old }
-        ensures rooms { SameRooms self.old self.new }
+        ensures capacities { SameCapacities self.old self.new }
     {
         let parcel = rows::pop_stage(&mut self.rows, instance as usize, stage);
         rows::hold(&mut self.rows, instance as usize, parcel);
@@ -393,7 +398,7 @@ impl Places {
             self.old self.new }
         ensures lent { IsLent self.new instance }
         ensures size { length self.new ≡ length self.old }
-        ensures rooms { SameRooms self.old self.new }
+        ensures capacities { SameCapacities self.old self.new }
     {
         let parcel = rows::pop_stage(&mut self.rows, instance as usize, stage);
         marks::mark(&self.rows, &mut self.marks, instance as usize);
@@ -407,7 +412,7 @@ impl Places {
         ensures lends { Lends instance result.items self.old self.new }
         ensures lent { IsLent self.new instance }
         ensures size { length self.new ≡ length self.old }
-        ensures rooms { LendsRoom instance result.room self.old self.new }
+        ensures capacities { LendsCapacity instance result.room self.old self.new }
     {
         let held = rows::lend(&mut self.rows, instance as usize);
         marks::mark(&self.rows, &mut self.marks, instance as usize);
@@ -421,7 +426,7 @@ impl Places {
         ensures lends { Lends instance held.items self.new self.old }
         ensures kept { IsKept self.new instance }
         ensures size { length self.new ≡ length self.old }
-        ensures rooms { LendsRoom instance held.room self.new self.old }
+        ensures capacities { LendsCapacity instance held.room self.new self.old }
     {
         rows::give_back(&mut self.rows, instance as usize, held);
         marks::mark(&self.rows, &mut self.marks, instance as usize);
@@ -434,7 +439,7 @@ impl Places {
         ensures loses { IfSome result
             (λ lost. Loses (Outputs instance) lost.copy lost.last self.old self.new) }
         ensures size { length self.new ≡ length self.old }
-        ensures rooms { SameRooms self.old self.new }
+        ensures capacities { SameCapacities self.old self.new }
         ensures none { IfNone result (self.new ≡ self.old) }
         ensures empty { IfNone result (NothingToSpend (Outputs instance) self.old) }
     {
@@ -452,7 +457,7 @@ impl Places {
             (λ lost. Loses (Held instance) lost.copy lost.last self.old self.new) }
         ensures kept { IsKept self.new instance }
         ensures size { length self.new ≡ length self.old }
-        ensures rooms { SameRooms self.old self.new }
+        ensures capacities { SameCapacities self.old self.new }
         ensures none { IfNone result (self.new ≡ self.old) }
         ensures empty { IfNone result (NothingToSpend (Held instance) self.old) }
     {
@@ -468,7 +473,7 @@ impl Places {
         ensures loses { IfSome result
             (λ lost. Loses (Contents instance stage) lost.copy lost.last self.old self.new) }
         ensures size { length self.new ≡ length self.old }
-        ensures rooms { SameRooms self.old self.new }
+        ensures capacities { SameCapacities self.old self.new }
         ensures none { IfNone result (self.new ≡ self.old) }
         ensures empty { IfNone result (NothingToSpend (Contents instance stage) self.old) }
     {
@@ -485,7 +490,7 @@ impl Places {
         ensures loses { IfSome result
             (λ lost. Loses (Waiting instance target) lost.copy lost.last self.old self.new) }
         ensures size { length self.new ≡ length self.old }
-        ensures rooms { SameRooms self.old self.new }
+        ensures capacities { SameCapacities self.old self.new }
         ensures none { IfNone result (self.new ≡ self.old) }
         ensures empty { IfNone result (NothingToSpend (Waiting instance target) self.old) }
     {

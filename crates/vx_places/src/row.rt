@@ -35,11 +35,11 @@ fn end_stages(stages: Vec<Line<Parcel>>)
 }
 
 // Empty stages with so much room each.
-fn make_stages(alloc: Global, rooms: &[usize]) -> Result<Vec<Line<Parcel>>, WantOfMemory>
-    ensures { IfOk result (λ stages. stages.items ≡ empty_stages rooms.now) }
+fn make_stages(alloc: Global, capacities: &[usize]) -> Result<Vec<Line<Parcel>>, WantOfMemory>
+    ensures { IfOk result (λ stages. stages.items ≡ empty_stages capacities.now) }
 {
-    let mut stages = Vec::with_capacity(alloc, rooms.len())?;
-    for room in rooms {
+    let mut stages = Vec::with_capacity(alloc, capacities.len())?;
+    for room in capacities {
         match Line::with_room(alloc, *room) {
             Ok(stage) => stages.push_reserved(stage),
             Err(WantOfMemory) => {
@@ -52,10 +52,14 @@ fn make_stages(alloc: Global, rooms: &[usize]) -> Result<Vec<Line<Parcel>>, Want
 }
 
 // An instance at which nothing stands, with so much room for what it holds.
-pub(crate) fn make_row(alloc: Global, rooms: &[usize], held: usize) -> Result<Row, WantOfMemory>
-    ensures { IfOk result (IsNew rooms.now held) }
+pub(crate) fn make_row(
+    alloc: Global,
+    capacities: &[usize],
+    held: usize,
+) -> Result<Row, WantOfMemory>
+    ensures { IfOk result (IsNew capacities.now held) }
 {
-    let stages = make_stages(alloc, rooms)?;
+    let stages = make_stages(alloc, capacities)?;
     match Line::with_room(alloc, held) {
         Ok(line) => Ok(Row {
             outputs: Line::new(alloc),
@@ -71,10 +75,10 @@ pub(crate) fn make_row(alloc: Global, rooms: &[usize], held: usize) -> Result<Ro
 }
 
 // The same with a keeper elsewhere, which has what the instance holds.
-pub(crate) fn make_keeper_row(alloc: Global, rooms: &[usize]) -> Result<Row, WantOfMemory>
-    ensures { IfOk result (IsNewKeeper rooms.now) }
+pub(crate) fn make_keeper_row(alloc: Global, capacities: &[usize]) -> Result<Row, WantOfMemory>
+    ensures { IfOk result (IsNewKeeper capacities.now) }
 {
-    let stages = make_stages(alloc, rooms)?;
+    let stages = make_stages(alloc, capacities)?;
     Ok(Row {
         outputs: Line::new(alloc),
         waiting: VecDeque::new(alloc),

@@ -3,7 +3,7 @@ ghost use Rattle.std.specs.Prelude.{◌≡◌, ◌<◌, ℕ, [], ◌∷◌, ◌+
 ghost use Rattle.vx_record.specs.Places.Place.{Outputs, Waiting, Contents, Held};
 ghost use Rattle.vx_places.specs.Numbers.{parcels_out};
 ghost use Rattle.vx_places.specs.Views.{Same, parcels_here, outputs_here};
-ghost use Rattle.vx_places.specs.Rooms.{SameRooms, LendsRoom};
+ghost use Rattle.vx_places.specs.Capacities.{SameCapacities, LendsCapacity};
 ghost use Rattle.vx_places.specs.Calls.{Takes, TakesOutput, Puts, Loses, Waits, Lends, HasOutputRoom, HasOutputRoomFor, NoneWaits, IsOldestFor, HasRoom, HasSome, IsKept, IsLent, HasHeldRoom, NothingToSpend, EachVacant};
 
 use crate::line::Line;
@@ -21,7 +21,7 @@ pub(crate) fn reserve_outputs(rows: &mut Vec<Row>, i: usize, n: usize) -> Result
     ensures same { Same rows.old.items rows.new.items }
     ensures room { OnOk result (HasOutputRoomFor rows.new.items i n) }
     ensures size { length rows.new.items ≡ length rows.old.items }
-    ensures rooms { SameRooms rows.old.items rows.new.items }
+    ensures capacities { SameCapacities rows.old.items rows.new.items }
     ensures err { OnErr result (rows.new.items ≡ rows.old.items) }
 {
     rows[i].outputs.reserve(n)
@@ -34,7 +34,7 @@ pub(crate) fn append_outputs(rows: &mut Vec<Row>, i: usize, more: ItemList<Outpu
     ensures puts { Puts (Outputs i) (parcels_out more) rows.old.items rows.new.items }
     ensures added { outputs_here rows.new.items i ≡ outputs_here rows.old.items i ++ more }
     ensures size { length rows.new.items ≡ length rows.old.items }
-    ensures rooms { SameRooms rows.old.items rows.new.items }
+    ensures capacities { SameCapacities rows.old.items rows.new.items }
 {
     rows[i].outputs.append(more);
 }
@@ -47,7 +47,7 @@ pub(crate) fn pop_output(rows: &mut Vec<Row>, i: usize) -> Option<Output>
     ensures output { IfSome result (λ output. TakesOutput i output rows.old.items rows.new.items) }
     ensures room { IfSome result (λ _. HasOutputRoom rows.new.items i) }
     ensures size { length rows.new.items ≡ length rows.old.items }
-    ensures rooms { SameRooms rows.old.items rows.new.items }
+    ensures capacities { SameCapacities rows.old.items rows.new.items }
     ensures none { IfNone result (rows.new.items ≡ rows.old.items) }
     ensures empty { IfNone result (parcels_here rows.old.items (Outputs i) ≡ Some []) }
 {
@@ -61,7 +61,7 @@ pub(crate) fn unpop_output(rows: &mut Vec<Row>, i: usize, output: Output)
     ensures takes { Takes (Outputs i) output.parcel rows.new.items rows.old.items }
     ensures output { TakesOutput i output rows.new.items rows.old.items }
     ensures size { length rows.new.items ≡ length rows.old.items }
-    ensures rooms { SameRooms rows.old.items rows.new.items }
+    ensures capacities { SameCapacities rows.old.items rows.new.items }
 {
     rows[i].outputs.put_back(output);
 }
@@ -72,7 +72,7 @@ pub(crate) fn put_children(rows: &mut Vec<Row>, i: usize, children: ChildList)
     requires none { NoneWaits rows.old.items i }
     ensures waits { Waits i children rows.old.items rows.new.items }
     ensures size { length rows.new.items ≡ length rows.old.items }
-    ensures rooms { SameRooms rows.old.items rows.new.items }
+    ensures capacities { SameCapacities rows.old.items rows.new.items }
 {
     let none = mem::replace(
         &mut rows[i].waiting,
@@ -88,7 +88,7 @@ pub(crate) fn take_child_room(rows: &mut Vec<Row>, i: usize) -> Vec<Child>
     ensures empty { result.items ≡ [] }
     ensures waits { Waits i [] rows.old.items rows.new.items }
     ensures size { length rows.new.items ≡ length rows.old.items }
-    ensures rooms { SameRooms rows.old.items rows.new.items }
+    ensures capacities { SameCapacities rows.old.items rows.new.items }
 {
     let alloc = *rows[i].waiting.allocator();
     let none = mem::replace(&mut rows[i].waiting, VecDeque::new(alloc));
@@ -101,7 +101,7 @@ pub(crate) fn take_child(rows: &mut Vec<Row>, i: usize, k: usize, target: u32) -
     requires oldest { IsOldestFor rows.old.items i target k }
     ensures takes { Takes (Waiting i target) result rows.old.items rows.new.items }
     ensures size { length rows.new.items ≡ length rows.old.items }
-    ensures rooms { SameRooms rows.old.items rows.new.items }
+    ensures capacities { SameCapacities rows.old.items rows.new.items }
     ensures free { (t s : ℕ) → HasRoom rows.old.items t s → HasRoom rows.new.items t s }
 {
     match rows[i].waiting.remove(k) {
@@ -116,7 +116,7 @@ pub(crate) fn hold(rows: &mut Vec<Row>, i: usize, parcel: Parcel)
     requires room { HasHeldRoom rows.old.items i }
     ensures puts { Puts (Held i) (parcel ∷ []) rows.old.items rows.new.items }
     ensures size { length rows.new.items ≡ length rows.old.items }
-    ensures rooms { SameRooms rows.old.items rows.new.items }
+    ensures capacities { SameCapacities rows.old.items rows.new.items }
 {
     match &mut rows[i].held {
         Some(held) => held.push(parcel),
@@ -131,7 +131,7 @@ pub(crate) fn lend(rows: &mut Vec<Row>, i: usize) -> Line<Parcel>
     ensures lends { Lends i result.items rows.old.items rows.new.items }
     ensures lent { IsLent rows.new.items i }
     ensures size { length rows.new.items ≡ length rows.old.items }
-    ensures rooms { LendsRoom i result.room rows.old.items rows.new.items }
+    ensures capacities { LendsCapacity i result.room rows.old.items rows.new.items }
 {
     match rows[i].held.take() {
         Some(held) => held,
@@ -146,7 +146,7 @@ pub(crate) fn give_back(rows: &mut Vec<Row>, i: usize, held: Line<Parcel>)
     ensures lends { Lends i held.items rows.new.items rows.old.items }
     ensures kept { IsKept rows.new.items i }
     ensures size { length rows.new.items ≡ length rows.old.items }
-    ensures rooms { LendsRoom i held.room rows.new.items rows.old.items }
+    ensures capacities { LendsCapacity i held.room rows.new.items rows.old.items }
 {
     match mem::replace(&mut rows[i].held, Some(held)) {
         None => {}
@@ -160,7 +160,7 @@ pub(crate) fn push_stage(rows: &mut Vec<Row>, t: usize, s: usize, parcel: Parcel
     requires room { HasRoom rows.old.items t s }
     ensures puts { Puts (Contents t s) (parcel ∷ []) rows.old.items rows.new.items }
     ensures size { length rows.new.items ≡ length rows.old.items }
-    ensures rooms { SameRooms rows.old.items rows.new.items }
+    ensures capacities { SameCapacities rows.old.items rows.new.items }
 {
     rows[t].stages[s].push(parcel);
 }
@@ -171,7 +171,7 @@ pub(crate) fn pop_stage(rows: &mut Vec<Row>, i: usize, s: usize) -> Parcel
     requires some { HasSome rows.old.items i s }
     ensures takes { Takes (Contents i s) result rows.old.items rows.new.items }
     ensures size { length rows.new.items ≡ length rows.old.items }
-    ensures rooms { SameRooms rows.old.items rows.new.items }
+    ensures capacities { SameCapacities rows.old.items rows.new.items }
 {
     match rows[i].stages[s].pop() {
         Some(parcel) => parcel,
@@ -185,7 +185,7 @@ pub(crate) fn spend_output(rows: &mut Vec<Row>, i: usize) -> Option<Lost>
     ensures loses { IfSome result
         (λ lost. Loses (Outputs i) lost.copy lost.last rows.old.items rows.new.items) }
     ensures size { length rows.new.items ≡ length rows.old.items }
-    ensures rooms { SameRooms rows.old.items rows.new.items }
+    ensures capacities { SameCapacities rows.old.items rows.new.items }
     ensures none { IfNone result (rows.new.items ≡ rows.old.items) }
     ensures empty { IfNone result (NothingToSpend (Outputs i) rows.old.items) }
 {
@@ -200,7 +200,7 @@ pub(crate) fn spend_held(rows: &mut Vec<Row>, i: usize) -> Option<Lost>
         (λ lost. Loses (Held i) lost.copy lost.last rows.old.items rows.new.items) }
     ensures kept { IsKept rows.new.items i }
     ensures size { length rows.new.items ≡ length rows.old.items }
-    ensures rooms { SameRooms rows.old.items rows.new.items }
+    ensures capacities { SameCapacities rows.old.items rows.new.items }
     ensures none { IfNone result (rows.new.items ≡ rows.old.items) }
     ensures empty { IfNone result (NothingToSpend (Held i) rows.old.items) }
 {
@@ -216,7 +216,7 @@ pub(crate) fn spend_stage(rows: &mut Vec<Row>, i: usize, s: usize) -> Option<Los
     ensures loses { IfSome result
         (λ lost. Loses (Contents i s) lost.copy lost.last rows.old.items rows.new.items) }
     ensures size { length rows.new.items ≡ length rows.old.items }
-    ensures rooms { SameRooms rows.old.items rows.new.items }
+    ensures capacities { SameCapacities rows.old.items rows.new.items }
     ensures none { IfNone result (rows.new.items ≡ rows.old.items) }
     ensures empty { IfNone result (NothingToSpend (Contents i s) rows.old.items) }
 {
@@ -234,7 +234,7 @@ pub(crate) fn spend_child(rows: &mut Vec<Row>, i: usize, k: usize, target: u32) 
     ensures loses { IfSome result
         (λ lost. Loses (Waiting i target) lost.copy lost.last rows.old.items rows.new.items) }
     ensures size { length rows.new.items ≡ length rows.old.items }
-    ensures rooms { SameRooms rows.old.items rows.new.items }
+    ensures capacities { SameCapacities rows.old.items rows.new.items }
     ensures none { IfNone result (rows.new.items ≡ rows.old.items) }
     ensures empty { IfNone result (NothingToSpend (Waiting i target) rows.old.items) }
 {

@@ -1,4 +1,4 @@
--- Each event that a source read it bore, in order: in the end none is owed.
+-- Each event that a source read is in a batch of it, in order: in the end none is owed.
 use Rattle.std.proofs.Common.{◌≡◌, ℕ, ◌+◌, ◌<◌, Bool, true, false, List, [], ◌∷◌, ◌++◌, length, inl, inr, refl, sym, ap, subst, ◌∙◌, arith, Some, None}
 use Rattle.std.specs.Prelude.{◌⊎◌, ◌==◌, ◌||◌, ◌&&◌, not, nat_lt, if◌then◌else◌}
 use Rattle.std.specs.List.{list_any}
@@ -23,7 +23,7 @@ use Rattle.vx_record.specs.Ending.{MayRetire}
 use Rattle.vx_record.specs.Legal.{IsLegal}
 use Rattle.vx_record.proofs.Answerers.{source_untransforming, unanswering}
 use Rattle.vx_record.proofs.Promises.{or_left}
-use Rattle.vx_record.proofs.Senders.{retired_home}
+use Rattle.vx_record.proofs.Senders.{retired_unleased}
 use Rattle.vx_record.proofs.SourceEnds.{source_done}
 use Rattle.vx_record.proofs.Rules.{some_is}
 use Rattle.vx_plain.proofs.Plans.{Run, Reads, reads_source}
@@ -35,7 +35,7 @@ read_events [] i = []
 read_events (Read j stream took ∷ h) i = read_events h i ++ (if j == i then events_of h i stream took else [])
 read_events (e ∷ h) i = read_events h i
 
--- each event that it read it bore
+-- each event that it read is in a batch of it
 pub record Paid (h : Record) (i : ℕ) : Type 0 where
   pub same : put_events h i ≡ read_events h i
   pub count : length (births h i) ≡ fruitful h i
@@ -49,8 +49,8 @@ pub record Owes (h : Record) (i : ℕ) : Type 0 where
   pub unretired : is_retired h i ≡ false
 
 -- one of the two
-abbrev pub IsBearing : Record → ℕ → Type 0
-IsBearing h i = Paid h i ⊎ Owes h i
+abbrev pub IsCreating : Record → ℕ → Type 0
+IsCreating h i = Paid h i ⊎ Owes h i
 
 -- what owes nothing owes no birth
 no_birth : (h : Record) (i : ℕ) → owes h i ≡ false → length (births h i) < fruitful h i → ⊥
@@ -63,16 +63,16 @@ no_birth h i settled fewer =
     let no : true ≡ false = sym is ∙ birth in cc
 
 -- an entry that is nothing to the source
-bearing_on : (h : Record) (e : Entry) (i : ℕ) → put_events (e ∷ h) i ≡ put_events h i → read_events (e ∷ h) i ≡ read_events h i →
+creating_on : (h : Record) (e : Entry) (i : ℕ) → put_events (e ∷ h) i ≡ put_events h i → read_events (e ∷ h) i ≡ read_events h i →
     length (births (e ∷ h) i) ≡ length (births h i) → fruitful (e ∷ h) i ≡ fruitful h i → (yield (e ∷ h) i ≡ None) →
     list_any (is_turn_of i) (since_lease (e ∷ h) i) ≡ list_any (is_turn_of i) (since_lease h i) → is_retired (e ∷ h) i ≡ is_retired h i →
-    IsBearing h i → IsBearing (e ∷ h) i
-bearing_on h e i put read born fruit none turned retired (inl paid) = inl (record {
+    IsCreating h i → IsCreating (e ∷ h) i
+creating_on h e i put read born fruit none turned retired (inl paid) = inl (record {
   same = put ∙ paid.same ∙ sym read;
   count = born ∙ paid.count ∙ sym fruit;
   barren = λ y is. let no : None ≡ Some y = sym none ∙ is in cc;
 })
-bearing_on h e i put read born fruit none turned retired (inr owing) = inr (record {
+creating_on h e i put read born fruit none turned retired (inr owing) = inr (record {
   turned = turned ∙ owing.turned;
   fewer = let f = owing.fewer in omega (arith, f, born, fruit);
   pending = λ y is. let no : None ≡ Some y = sym none ∙ is in cc;
@@ -82,7 +82,7 @@ bearing_on h e i put read born fruit none turned retired (inr owing) = inr (reco
 -- READS
 -- a Read of the source itself
 own_read : (h : Record) (i stream : ℕ) (took : Taken) → IsLegal (Read i stream took ∷ h) → Paid h i → (es : List Event) → events_of h i stream took ≡ es →
-    IsBearing (Read i stream took ∷ h) i
+    IsCreating (Read i stream took ∷ h) i
 own_read h i stream took legal paid es gives = go es gives
   where
     k : Record
@@ -106,11 +106,11 @@ own_read h i stream took legal paid es gives = go es gives
     same_events : (y : Yield) → yield k i ≡ Some y → y.events ≡ events_of h i stream took
     same_events y is = ap (λ (y : Yield). y.events) (sym (some_is (yield_of h i stream took) y (sym yields ∙ is)))
 
-    at_home : (b : Bool) → is_retired h i ≡ b → b ≡ false
-    at_home true is = let no : true ≡ false = sym legal.0.row.turn.out ∙ retired_home h i legal.1 is in cc
-    at_home false is = refl
+    unleased_there : (b : Bool) → is_retired h i ≡ b → b ≡ false
+    unleased_there true is = let no : true ≡ false = sym legal.0.row.turn.out ∙ retired_unleased h i legal.1 is in cc
+    unleased_there false is = refl
 
-    go : (es : List Event) → events_of h i stream took ≡ es → IsBearing k i
+    go : (es : List Event) → events_of h i stream took ≡ es → IsCreating k i
     go [] none = inl (record {
       same = paid.same ∙ sym (append-nil (read_events h i)) ∙ ap (λ xs. read_events h i ++ xs) (sym none) ∙ sym reads;
       count =
@@ -128,23 +128,23 @@ own_read h i stream took legal paid es gives = go es gives
             ap (λ ys. put_events h i ++ ys) (same_events y is) ∙ ap (λ ys. ys ++ events_of h i stream took) paid.same ∙ sym reads,
             omega (arith, born, was, fruits, more),
           );
-          unretired = at_home (is_retired h i) refl;
+          unretired = unleased_there (is_retired h i) refl;
         })
 
 -- a Read, of the source or of another
-on_read : (h : Record) (i j stream : ℕ) (took : Taken) → IsLegal (Read j stream took ∷ h) → IsBearing h i → IsBearing (Read j stream took ∷ h) i
+on_read : (h : Record) (i j stream : ℕ) (took : Taken) → IsLegal (Read j stream took ∷ h) → IsCreating h i → IsCreating (Read j stream took ∷ h) i
 on_read h i j stream took legal was = go (j == i) refl was
   where
-    go : (b : Bool) → (j == i) ≡ b → IsBearing h i → IsBearing (Read j stream took ∷ h) i
+    go : (b : Bool) → (j == i) ≡ b → IsCreating h i → IsCreating (Read j stream took ∷ h) i
     go true is (inl paid) =
         let same = eqb-true j i is in
-        subst (λ (n : ℕ). IsBearing (Read n stream took ∷ h) i) (sym same)
+        subst (λ (n : ℕ). IsCreating (Read n stream took ∷ h) i) (sym same)
         (own_read h i stream took (subst (λ (n : ℕ). IsLegal (Read n stream took ∷ h)) same legal) paid (events_of h i stream took) refl)
     go true is (inr owing) =
         let once = subst (λ (n : ℕ). list_any (is_turn_of n) (since_lease h n) ≡ false) (eqb-true j i is) legal.0.row.turn.once in
         let no : true ≡ false = sym owing.turned ∙ once in cc
     go false is before =
-        bearing_on h (Read j stream took) i refl
+        creating_on h (Read j stream took) i refl
         (ap (λ (b : Bool). read_events h i ++ (if b then events_of h i stream took else [])) is ∙ append-nil (read_events h i))
         (ap (λ (bs : List Birth). length bs) (append-nil (births h i)))
         (let more = ap {B = ℕ} (λ (b : Bool). if b && not (is_empty (events_of h i stream took)) then 1 else 0) is in omega (arith, more))
@@ -153,7 +153,7 @@ on_read h i j stream took legal was = go (j == i) refl was
 
 -- BIRTHS
 on_born : (h : Record) (i j b place : ℕ) (copies : List ℕ) (events : List Event) (waits : Bool) (stream end : ℕ) →
-    IsLegal (Born j b place copies events waits stream end ∷ h) → IsBearing h i → IsBearing (Born j b place copies events waits stream end ∷ h) i
+    IsLegal (Born j b place copies events waits stream end ∷ h) → IsCreating h i → IsCreating (Born j b place copies events waits stream end ∷ h) i
 on_born h i j b place copies events waits stream end legal was = go (j == i) refl was
   where
     e : Entry
@@ -170,7 +170,7 @@ on_born h i j b place copies events waits stream end legal was = go (j == i) ref
         ap (λ (d : Bool). length (births h i ++ (if d then record { batch = b; waits = waits; stream = stream; end = end } ∷ [] else []))) is
         ∙ length-append (births h i) []
 
-    go : (d : Bool) → (j == i) ≡ d → IsBearing h i → IsBearing (e ∷ h) i
+    go : (d : Bool) → (j == i) ≡ d → IsCreating h i → IsCreating (e ∷ h) i
     go true is (inl paid) =
         let none = ap (λ (xs : List Event). length xs) (paid.barren y (subst (λ (n : ℕ). yield h n ≡ Some y) (eqb-true j i is) legal.0.row.yields)) in
         let some = legal.0.row.some in
@@ -184,12 +184,12 @@ on_born h i j b place copies events waits stream end legal was = go (j == i) ref
           barren = λ y no. cc;
         })
     go false is before =
-        bearing_on h e i
+        creating_on h e i
         (ap (λ (d : Bool). put_events h i ++ (if d then events else [])) is ∙ append-nil (put_events h i))
         refl (let l = born false is in omega (arith, l)) refl refl refl refl before
 
 -- ALL ENTRIES
-on_lease : (h : Record) (i j worker now polls : ℕ) → IsLegal (Lease j worker now polls ∷ h) → IsBearing h i → IsBearing (Lease j worker now polls ∷ h) i
+on_lease : (h : Record) (i j worker now polls : ℕ) → IsLegal (Lease j worker now polls ∷ h) → IsCreating h i → IsCreating (Lease j worker now polls ∷ h) i
 on_lease h i j worker now polls legal (inl paid) = inl (record {
   same = paid.same;
   count = ap (λ (bs : List Birth). length bs) (append-nil (births h i)) ∙ paid.count;
@@ -200,14 +200,14 @@ on_lease h i j worker now polls legal (inr owing) = go (j == i) refl
     e : Entry
     e = Lease j worker now polls
 
-    go : (b : Bool) → (j == i) ≡ b → IsBearing (e ∷ h) i
+    go : (b : Bool) → (j == i) ≡ b → IsCreating (e ∷ h) i
     go true is = absurd (no_birth h i (subst (λ (n : ℕ). owes h n ≡ false) (eqb-true j i is) legal.0.row.settled) owing.fewer)
     go false is =
-        bearing_on h e i refl refl (ap (λ (bs : List Birth). length bs) (append-nil (births h i))) refl refl
+        creating_on h e i refl refl (ap (λ (bs : List Birth). length bs) (append-nil (births h i))) refl refl
         (ap (λ (b : Bool). list_any (is_turn_of i) (if b then [] else e ∷ since_lease h i)) is) refl (inr owing)
 
 -- what is retired owes nothing
-on_retired : (h : Record) (i j : ℕ) → source_at h i ≡ true → abandoned h ≡ false → IsLegal (Retired j ∷ h) → IsBearing h i → IsBearing (Retired j ∷ h) i
+on_retired : (h : Record) (i j : ℕ) → source_at h i ≡ true → abandoned h ≡ false → IsLegal (Retired j ∷ h) → IsCreating h i → IsCreating (Retired j ∷ h) i
 on_retired h i j source whole legal (inl paid) = inl (record {
   same = paid.same;
   count = ap (λ (bs : List Birth). length bs) (append-nil (births h i)) ∙ paid.count;
@@ -221,16 +221,16 @@ on_retired h i j source whole legal (inr owing) = go (j == i) refl
       | inr gone ↦ let no : true ≡ false = sym gone.0 ∙ whole in cc
     ]
 
-    go : (b : Bool) → (j == i) ≡ b → IsBearing (Retired j ∷ h) i
+    go : (b : Bool) → (j == i) ≡ b → IsCreating (Retired j ∷ h) i
     go true is = absurd (over (eqb-true j i is))
     go false is =
-        bearing_on h (Retired j) i refl refl (ap (λ (bs : List Birth). length bs) (append-nil (births h i))) refl refl refl
+        creating_on h (Retired j) i refl refl (ap (λ (bs : List Birth). length bs) (append-nil (births h i))) refl refl refl
         (ap (λ (b : Bool). b || is_retired h i) is) (inr owing)
 
 -- a turn without a Read: a source that owes a birth had its turn
 on_turn : (h : Record) (e : Entry) (i j : ℕ) → MayTurn h j → put_events (e ∷ h) i ≡ put_events h i → read_events (e ∷ h) i ≡ read_events h i →
     length (births (e ∷ h) i) ≡ length (births h i) → fruitful (e ∷ h) i ≡ fruitful h i → (yield (e ∷ h) i ≡ None) → is_retired (e ∷ h) i ≡ is_retired h i →
-    list_any (is_turn_of i) (since_lease (e ∷ h) i) ≡ ((j == i) || list_any (is_turn_of i) (since_lease h i)) → IsBearing h i → IsBearing (e ∷ h) i
+    list_any (is_turn_of i) (since_lease (e ∷ h) i) ≡ ((j == i) || list_any (is_turn_of i) (since_lease h i)) → IsCreating h i → IsCreating (e ∷ h) i
 on_turn h e i j turn put read born fruit none retired turned (inl paid) = inl (record {
   same = put ∙ paid.same ∙ sym read;
   count = born ∙ paid.count ∙ sym fruit;
@@ -238,49 +238,49 @@ on_turn h e i j turn put read born fruit none retired turned (inl paid) = inl (r
 })
 on_turn h e i j turn put read born fruit none retired turned (inr owing) = go (j == i) refl
   where
-    go : (b : Bool) → (j == i) ≡ b → IsBearing (e ∷ h) i
+    go : (b : Bool) → (j == i) ≡ b → IsCreating (e ∷ h) i
     go true is =
         let once = subst (λ (n : ℕ). list_any (is_turn_of n) (since_lease h n) ≡ false) (eqb-true j i is) turn.once in
         let no : true ≡ false = sym owing.turned ∙ once in cc
     go false is =
-        bearing_on h e i put read born fruit none
+        creating_on h e i put read born fruit none
         (turned ∙ ap (λ (b : Bool). b || list_any (is_turn_of i) (since_lease h i)) is) retired (inr owing)
 
 -- so it is in each run of the plan
-bearing : (plan : Plan) (h : Record) (i : ℕ) → Reads plan i → Run plan h → IsBearing h i
-bearing plan [] i reads run = inl (record { same = refl; count = refl; barren = λ y no. cc })
-bearing plan (Install version made once instances now ∷ h) i reads run =
-    subst (λ (r : Record). IsBearing (Install version made once instances now ∷ r) i) (sym run.legal.0.row.first) (inl (record { same = refl; count = refl; barren = λ y no. cc }))
-bearing plan (Lease j worker now polls ∷ h) i reads run =
-    on_lease h i j worker now polls run.legal (bearing plan h i reads (record { legal = run.legal.1; installed = run.installed; whole = run.whole }))
-bearing plan (Read j stream took ∷ h) i reads run =
-    on_read h i j stream took run.legal (bearing plan h i reads (record { legal = run.legal.1; installed = run.installed; whole = run.whole }))
-bearing plan (Idle j failed ∷ h) i reads run =
+creating : (plan : Plan) (h : Record) (i : ℕ) → Reads plan i → Run plan h → IsCreating h i
+creating plan [] i reads run = inl (record { same = refl; count = refl; barren = λ y no. cc })
+creating plan (Install version made once instances now ∷ h) i reads run =
+    subst (λ (r : Record). IsCreating (Install version made once instances now ∷ r) i) (sym run.legal.0.row.first) (inl (record { same = refl; count = refl; barren = λ y no. cc }))
+creating plan (Lease j worker now polls ∷ h) i reads run =
+    on_lease h i j worker now polls run.legal (creating plan h i reads (record { legal = run.legal.1; installed = run.installed; whole = run.whole }))
+creating plan (Read j stream took ∷ h) i reads run =
+    on_read h i j stream took run.legal (creating plan h i reads (record { legal = run.legal.1; installed = run.installed; whole = run.whole }))
+creating plan (Idle j failed ∷ h) i reads run =
     on_turn h (Idle j failed) i j run.legal.0.row.turn refl refl (ap (λ (bs : List Birth). length bs) (append-nil (births h i))) refl refl refl refl
-    (bearing plan h i reads (record { legal = run.legal.1; installed = run.installed; whole = run.whole }))
-bearing plan (SourceLost j at failed ∷ h) i reads run =
+    (creating plan h i reads (record { legal = run.legal.1; installed = run.installed; whole = run.whole }))
+creating plan (SourceLost j at failed ∷ h) i reads run =
     on_turn h (SourceLost j at failed) i j run.legal.0.row.turn refl refl (ap (λ (bs : List Birth). length bs) (append-nil (births h i))) refl refl refl refl
-    (bearing plan h i reads (record { legal = run.legal.1; installed = run.installed; whole = run.whole }))
-bearing plan (Born j b place copies events waits stream end ∷ h) i reads run =
-    on_born h i j b place copies events waits stream end run.legal (bearing plan h i reads (record { legal = run.legal.1; installed = run.installed; whole = run.whole }))
-bearing plan (Answer j made discarded kept ∷ h) i reads run =
+    (creating plan h i reads (record { legal = run.legal.1; installed = run.installed; whole = run.whole }))
+creating plan (Born j b place copies events waits stream end ∷ h) i reads run =
+    on_born h i j b place copies events waits stream end run.legal (creating plan h i reads (record { legal = run.legal.1; installed = run.installed; whole = run.whole }))
+creating plan (Answer j made discarded kept ∷ h) i reads run =
     let other : (j == i) ≡ false = unanswering h i j made discarded kept run.legal (source_untransforming h i (reads_source plan h i reads run.legal.1 run.installed)) in
-    bearing_on h (Answer j made discarded kept) i
+    creating_on h (Answer j made discarded kept) i
     (ap (λ (b : Bool). put_events h i ++ (if b then output_events made else [])) other ∙ append-nil (put_events h i))
     refl (ap (λ (bs : List Birth). length bs) (append-nil (births h i))) refl refl refl refl
-    (bearing plan h i reads (record { legal = run.legal.1; installed = run.installed; whole = run.whole }))
-bearing plan (Retired j ∷ h) i reads run =
+    (creating plan h i reads (record { legal = run.legal.1; installed = run.installed; whole = run.whole }))
+creating plan (Retired j ∷ h) i reads run =
     on_retired h i j (reads_source plan h i reads run.legal.1 run.installed) run.whole run.legal
-    (bearing plan h i reads (record { legal = run.legal.1; installed = run.installed; whole = run.whole }))
-bearing plan (Abandon cause ∷ h) i reads run = let no : true ≡ false = run.whole in cc
-bearing plan (e ∷ h) i reads run =
-    bearing_on h e i refl refl (ap (λ (bs : List Birth). length bs) (append-nil (births h i))) refl refl refl refl
-    (bearing plan h i reads (record { legal = run.legal.1; installed = run.installed; whole = run.whole }))
+    (creating plan h i reads (record { legal = run.legal.1; installed = run.installed; whole = run.whole }))
+creating plan (Abandon cause ∷ h) i reads run = let no : true ≡ false = run.whole in cc
+creating plan (e ∷ h) i reads run =
+    creating_on h e i refl refl (ap (λ (bs : List Birth). length bs) (append-nil (births h i))) refl refl refl refl
+    (creating plan h i reads (record { legal = run.legal.1; installed = run.installed; whole = run.whole }))
 
--- where the source is retired it bore all that it read
-pub bore_all : (plan : Plan) (h : Record) (i : ℕ) → Reads plan i → Run plan h → is_retired h i ≡ true → put_events h i ≡ read_events h i
-bore_all plan h i reads run retired = go (bearing plan h i reads run)
+-- where the source is retired all that it read is in a batch of it
+pub created_all : (plan : Plan) (h : Record) (i : ℕ) → Reads plan i → Run plan h → is_retired h i ≡ true → put_events h i ≡ read_events h i
+created_all plan h i reads run retired = go (creating plan h i reads run)
   where
-    go : IsBearing h i → put_events h i ≡ read_events h i
+    go : IsCreating h i → put_events h i ≡ read_events h i
     go (inl paid) = paid.same
     go (inr owing) = let no : true ≡ false = sym retired ∙ owing.unretired in cc

@@ -11,7 +11,7 @@ use Rattle.vx_record.specs.Parcels.{parcel_event}
 use Rattle.vx_record.specs.Installs.{is_retired}
 use Rattle.vx_record.specs.Encoding.{encode}
 use Rattle.vx_record.specs.Shifts.{at}
-use Rattle.vx_record.proofs.Senders.{started_told}
+use Rattle.vx_record.proofs.Senders.{started_component_or}
 use Rattle.vx_plain.specs.Plain.{Picker, picked, Feeds, IsChain, PlainCase}
 use Rattle.vx_plain.proofs.Plans.{Run, Reads, Sends, Buffers, transform_buffers, reads_source}
 use Rattle.vx_plain.proofs.Flows.{put_events, took_events}
@@ -20,7 +20,7 @@ use Rattle.vx_plain.proofs.Ended.{NoneLive, nothing_at}
 use Rattle.vx_plain.proofs.Meanings.{picks_passed}
 use Rattle.vx_plain.proofs.Sinks.{Writes, Unfailed, given_bytes}
 use Rattle.vx_plain.proofs.Giving.{gave_all}
-use Rattle.vx_plain.proofs.Births.{bore_all}
+use Rattle.vx_plain.proofs.Births.{created_all}
 use Rattle.vx_plain.proofs.Streams.{OneStream}
 use Rattle.vx_plain.proofs.ReadEnds.{read_all}
 
@@ -53,7 +53,7 @@ plain_case plan chain h stream plain =
     (gave_all plan h chain.sink chain.codec writes run unfailed none
     ∙ took_picked plan h chain.source chain.pickers chain.sink (inl reads) chain.linked buffers run none
     ∙ ap (λ (es : List Event). picked chain.pickers es)
-    (bore_all plan h chain.source reads run retired ∙ read_all plan h chain.source stream reads run one plain.ended))
+    (created_all plan h chain.source reads run retired ∙ read_all plan h chain.source stream reads run one plain.ended))
   where
     run : Run plan h
     run = record { legal = plain.legal; installed = plain.installed; whole = plain.whole }
@@ -79,4 +79,4 @@ plain_case plan chain h stream plain =
     retired : is_retired h chain.source ≡ true
     retired =
         plain.closed.retired chain.source
-        (started_told h chain.source is_source plain.legal (reads_source plan h chain.source reads plain.legal plain.installed))
+        (started_component_or h chain.source is_source plain.legal (reads_source plan h chain.source reads plain.legal plain.installed))

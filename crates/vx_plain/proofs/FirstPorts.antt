@@ -26,7 +26,7 @@ use Rattle.vx_record.proofs.Attempted.{joined_more, joined_and_rest}
 use Rattle.vx_record.proofs.Answers.{count-shrunk}
 use Rattle.vx_record.proofs.Answerers.{answerer, source_untransforming}
 use Rattle.vx_record.proofs.Events.{said_before}
-use Rattle.vx_record.proofs.Hands.{not_there}
+use Rattle.vx_record.proofs.HeldCopies.{not_there}
 use Rattle.vx_record.proofs.Spenders.{stands_live}
 use Rattle.vx_plain.proofs.Ruled.{one_rule}
 use Rattle.vx_plain.proofs.Plans.{Sends, runs_by, reads_source}

@@ -1,7 +1,7 @@
 -- What a source reads of one stream until the end of all is the events of all lines of its bytes.
 use Rattle.std.proofs.Common.{◌≡◌, ℕ, Bool, false, List, [], ◌∷◌, ◌++◌, refl, sym, ap, ◌∙◌, Option, Some, None}
 use Rattle.std.proofs.lemmas.List.{append_assoc}
-use Rattle.vx_value.specs.Texts.{Word}
+use Rattle.vx_value.specs.Texts.{ByteString}
 use Rattle.vx_value.specs.declared.event.Event.{Event}
 use Rattle.vx_frame.specs.Frames.{Frame, frames}
 use Rattle.vx_json.specs.declared.decoding.Decoding.{Decoding}
@@ -49,11 +49,11 @@ no_lines settings = go (decoding settings)
     go (Some d) = refl
 
 -- the events of the lines of some bytes, open or ended
-abbrev pub lines_of : Settings → Word → Bool → List Event
+abbrev pub lines_of : Settings → ByteString → Bool → List Event
 lines_of settings bytes ended = events_of_lines settings (frames bytes (longest_line settings) ended)
 
 -- what a Read adds to the events of some open bytes
-pub adds : (settings : Settings) (before : Word) (took : Taken) →
+pub adds : (settings : Settings) (before : ByteString) (took : Taken) →
     lines_of settings before false ++ events_of_lines settings (lines_past (longest_line settings) before took) ≡ events_of_lines settings (lines_after (longest_line settings) before took)
 adds settings before took =
     sym (lines-append settings (frames before (longest_line settings) false) (lines_past (longest_line settings) before took))

@@ -26,7 +26,7 @@ use Rattle.vx_record.proofs.Answers.{inputs_parted}
 use Rattle.vx_record.proofs.Answerers.{source_untransforming}
 use Rattle.vx_record.proofs.Judged.{runner_transforms, runs_judging}
 use Rattle.vx_record.proofs.Judges.{held_is_given}
-use Rattle.vx_record.proofs.Senders.{bearer}
+use Rattle.vx_record.proofs.Senders.{creator}
 use Rattle.vx_plain.specs.Plain.{IsPicker}
 use Rattle.vx_plain.proofs.Plans.{Run, runs_by}
 use Rattle.vx_plain.proofs.Flows.{put_events, took_events, output_events}
@@ -146,7 +146,7 @@ passes_on plan (Born j b place copies events waits stream end ∷ h) t passes pi
   where
     no_birth : j ≡ t → ⊥
     no_birth same =
-        let source : source_at h j ≡ true = (bearer h j _ run.legal.1 run.legal.0.row.yields).0 in
+        let source : source_at h j ≡ true = (creator h j _ run.legal.1 run.legal.0.row.yields).0 in
         let transform : transform_at h t ≡ true = runner_transforms h t (judges (passing passes)) (runs_by plan h t passes picks run.legal.1 run.installed) in
         let no : true ≡ false = sym transform ∙ source_untransforming h t (subst (λ (n : ℕ). source_at h n ≡ true) same source) in cc
 

@@ -3,7 +3,7 @@ use Rattle.std.proofs.Common.{◌≡◌, ℕ, ◌+◌, ◌<◌, Bool, true, fals
 use Rattle.std.specs.Prelude.{◌⊎◌, ◌==◌, ◌&&◌, ◌||◌, if◌then◌else◌, unwrap_or}
 use Rattle.std.proofs.lemmas.Bool.{eqb-true, eq-eqb}
 use Rattle.std.proofs.lemmas.List.{append-nil}
-use Rattle.vx_value.specs.Texts.{Word}
+use Rattle.vx_value.specs.Texts.{ByteString}
 use Rattle.vx_value.specs.declared.event.Event.{Event}
 use Rattle.vx_frame.specs.Frames.{Frame, frames}
 use Rattle.vx_plan.specs.declared.plan.Plan.{Plan}
@@ -30,8 +30,8 @@ use Rattle.vx_plain.proofs.Readout.{IsShut, IsReadSo, own_read, own_open, own_ev
 -- a Read that tells an end: it has no bytes, leaves nothing open, and completes the open line, if there is one
 pub record IsEnd (took : Taken) : Type 0 where
   pub bytes : bytes_of took ≡ []
-  pub shuts : (w : Word) → still_open took w ≡ []
-  pub lines : (limit : ℕ) (w : Word) → lines_after limit w took ≡ frames w limit true
+  pub shuts : (w : ByteString) → still_open took w ≡ []
+  pub lines : (limit : ℕ) (w : ByteString) → lines_after limit w took ≡ frames w limit true
   pub none : (limit : ℕ) → lines_past limit [] took ≡ []
 
 -- a stream's end is one
@@ -45,7 +45,7 @@ end_of_all = record { bytes = refl; shuts = λ w. refl; lines = λ limit w. refl
 -- it takes no bytes
 same_taken : (h : Record) (i s stream : ℕ) (took : Taken) → IsEnd took → taken (Read i s took ∷ h) i stream ≡ taken h i stream
 same_taken h i s stream took ends =
-    own_taken h i s stream took ∙ ap (λ (w : Word). taken h i stream ++ (if s == stream then w else [])) ends.bytes ∙ go (s == stream)
+    own_taken h i s stream took ∙ ap (λ (w : ByteString). taken h i stream ++ (if s == stream then w else [])) ends.bytes ∙ go (s == stream)
   where
     go : (b : Bool) → taken h i stream ++ (if b then [] else []) ≡ taken h i stream
     go true = append-nil (taken h i stream)
@@ -64,7 +64,7 @@ same_events : (settings : Settings) (h : Record) (i s stream : ℕ) (took : Take
     read_events h i ≡ lines_of settings (taken h i stream) true → read_events (Read i s took ∷ h) i ≡ lines_of settings (taken (Read i s took ∷ h) i stream) true
 same_events settings h i s stream took ends none was =
     own_read h i s took ∙ ap (λ (es : List Event). read_events h i ++ es) none ∙ append-nil (read_events h i) ∙ was
-    ∙ ap (λ (w : Word). lines_of settings w true) (sym (same_taken h i s stream took ends))
+    ∙ ap (λ (w : ByteString). lines_of settings w true) (sym (same_taken h i s stream took ends))
 
 -- behind an end of this stream all lines are read
 shut_by : (plan : Plan) (h : Record) (i s stream : ℕ) (took : Taken) (reads : Reads plan i) → IsLegal h → in_force h ≡ Some plan → IsEnd took →
@@ -89,7 +89,7 @@ shut_by plan h i s stream took reads legal force ends same over was = record {
         (own_events plan h i s took (taken h i stream) reads legal force (this_stream h i s stream took same ∙ before.bytes))
         ∙ adds settings (taken h i stream) took
         ∙ ap (λ (lines : List Frame). events_of_lines settings lines) (ends.lines (longest_line settings) (taken h i stream))
-        ∙ ap (λ (w : Word). lines_of settings w true) (sym (same_taken h i s stream took ends))
+        ∙ ap (λ (w : ByteString). lines_of settings w true) (sym (same_taken h i s stream took ends))
     go (inr before) =
         same_events settings h i s stream took ends
         (no_event plan h i s took reads legal force ends (this_stream h i s stream took same ∙ before.bytes)) before.events
@@ -148,7 +148,7 @@ on_end plan h i s stream reads legal force is was = inr (go (unwrap_or (last_str
           bytes = stays other ∙ before.bytes ∙ none;
           events =
               same_events settings h i s stream AllEnded end_of_all (quiet other)
-              (before.events ∙ ap (λ (w : Word). lines_of settings w false) none ∙ ap (λ (w : Word). lines_of settings w true) (sym none));
+              (before.events ∙ ap (λ (w : ByteString). lines_of settings w false) none ∙ ap (λ (w : ByteString). lines_of settings w true) (sym none));
         }
     go false other (inr before) = record {
       over = inr over;
@@ -164,12 +164,12 @@ read_on : (settings : Settings) (h : Record) (e : Entry) (i stream : ℕ) → re
 read_on settings h e i stream read took opened ends more (inl was) = inl (record {
   unended = ends ∙ was.unended;
   bytes = opened ∙ was.bytes ∙ sym took;
-  events = read ∙ was.events ∙ ap (λ (w : Word). lines_of settings w false) (sym took);
+  events = read ∙ was.events ∙ ap (λ (w : ByteString). lines_of settings w false) (sym took);
 })
 read_on settings h e i stream read took opened ends more (inr was) = inr (record {
   over = go was.over;
   bytes = opened ∙ was.bytes;
-  events = read ∙ was.events ∙ ap (λ (w : Word). lines_of settings w true) (sym took);
+  events = read ∙ was.events ∙ ap (λ (w : ByteString). lines_of settings w true) (sym took);
 })
   where
     go : (0 < count stream (ended_streams h i)) ⊎ (all_ended h i ≡ true) → (0 < count stream (ended_streams (e ∷ h) i)) ⊎ (all_ended (e ∷ h) i ≡ true)

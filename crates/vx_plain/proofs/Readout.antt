@@ -3,7 +3,7 @@ use Rattle.std.proofs.Common.{◌≡◌, ℕ, ◌<◌, Bool, true, false, [], �
 use Rattle.std.specs.Prelude.{◌⊎◌, ◌≢◌, ◌==◌, ◌&&◌, ◌||◌, if◌then◌else◌}
 use Rattle.std.proofs.lemmas.Bool.{eqb-true, eq-eqb}
 use Rattle.std.proofs.lemmas.List.{append-nil}
-use Rattle.vx_value.specs.Texts.{Word}
+use Rattle.vx_value.specs.Texts.{ByteString}
 use Rattle.vx_plan.specs.declared.plan.Plan.{Plan}
 use Rattle.vx_plan.specs.declared.settings.Settings.{Settings}
 use Rattle.vx_plan.specs.Components.{longest_line}
@@ -47,12 +47,12 @@ pub own_open : (h : Record) (i s t : ℕ) (took : Taken) →
 own_open h i s t took = ap (λ (b : Bool). if b && (stream_of h i s took == t) then still_open took (open_bytes h i t) else open_bytes h i t) (eq-eqb i i refl)
 
 -- its events, where this was open
-pub own_events : (plan : Plan) (h : Record) (i s : ℕ) (took : Taken) (before : Word) (reads : Reads plan i) → IsLegal h → in_force h ≡ Some plan →
+pub own_events : (plan : Plan) (h : Record) (i s : ℕ) (took : Taken) (before : ByteString) (reads : Reads plan i) → IsLegal h → in_force h ≡ Some plan →
     open_bytes h i (stream_of h i s took) ≡ before →
     events_of h i s took ≡ events_of_lines reads.component.settings (lines_past (longest_line reads.component.settings) before took)
 own_events plan h i s took before reads legal force is =
     events_by plan h i s took reads legal force
-    ∙ ap (λ (w : Word). events_of_lines reads.component.settings (lines_past (longest_line reads.component.settings) w took)) is
+    ∙ ap (λ (w : ByteString). events_of_lines reads.component.settings (lines_past (longest_line reads.component.settings) w took)) is
 
 -- the stream of a Read is this one, or it is another
 pub this_stream : (h : Record) (i s stream : ℕ) (took : Taken) → (stream_of h i s took == stream) ≡ true → open_bytes h i (stream_of h i s took) ≡ open_bytes h i stream
@@ -73,14 +73,14 @@ quiet_read settings h i s stream took none same opened ends more (inl was) = inl
   bytes = opened ∙ was.bytes ∙ sym same;
   events =
       own_read h i s took ∙ ap (λ es. read_events h i ++ es) none ∙ append-nil (read_events h i) ∙ was.events
-      ∙ ap (λ (w : Word). lines_of settings w false) (sym same);
+      ∙ ap (λ (w : ByteString). lines_of settings w false) (sym same);
 })
 quiet_read settings h i s stream took none same opened ends more (inr was) = inr (record {
   over = go was.over;
   bytes = opened ∙ was.bytes;
   events =
       own_read h i s took ∙ ap (λ es. read_events h i ++ es) none ∙ append-nil (read_events h i) ∙ was.events
-      ∙ ap (λ (w : Word). lines_of settings w true) (sym same);
+      ∙ ap (λ (w : ByteString). lines_of settings w true) (sym same);
 })
   where
     go : (0 < count stream (ended_streams h i)) ⊎ (all_ended h i ≡ true) →
@@ -94,7 +94,7 @@ ended_on h i s stream took some =
     let all = count-append stream (ended_streams h i) (ended_by i (Read i s took)) in omega (arith, some, all)
 
 -- BYTES
-pub on_bytes : (plan : Plan) (h : Record) (i s stream : ℕ) (bytes : Word) (reads : Reads plan i) → IsLegal (Read i s (Bytes bytes) ∷ h) → in_force h ≡ Some plan →
+pub on_bytes : (plan : Plan) (h : Record) (i s stream : ℕ) (bytes : ByteString) (reads : Reads plan i) → IsLegal (Read i s (Bytes bytes) ∷ h) → in_force h ≡ Some plan →
     OneStream (Read i s (Bytes bytes) ∷ h) i stream → IsReadSo reads.component.settings h i stream → IsReadSo reads.component.settings (Read i s (Bytes bytes) ∷ h) i stream
 on_bytes plan h i s stream bytes reads legal force is was = go (s == stream) refl was
   where
@@ -112,9 +112,9 @@ on_bytes plan h i s stream bytes reads legal force is was = go (s == stream) ref
     quiet none shut before =
         quiet_read settings h i s stream (Bytes bytes)
         (own_events plan h i s (Bytes bytes) [] reads legal.1 force shut
-        ∙ ap (λ (w : Word). events_of_lines settings (lines_past (longest_line settings) [] (Bytes w))) none ∙ no_lines settings)
-        (own_taken h i s stream (Bytes bytes) ∙ ap (λ (w : Word). taken h i stream ++ (if s == stream then w else [])) none ∙ same_taken (s == stream))
-        (own_open h i s stream (Bytes bytes) ∙ ap (λ (w : Word). if s == stream then open_bytes h i stream ++ w else open_bytes h i stream) none ∙ same_open (s == stream))
+        ∙ ap (λ (w : ByteString). events_of_lines settings (lines_past (longest_line settings) [] (Bytes w))) none ∙ no_lines settings)
+        (own_taken h i s stream (Bytes bytes) ∙ ap (λ (w : ByteString). taken h i stream ++ (if s == stream then w else [])) none ∙ same_taken (s == stream))
+        (own_open h i s stream (Bytes bytes) ∙ ap (λ (w : ByteString). if s == stream then open_bytes h i stream ++ w else open_bytes h i stream) none ∙ same_open (s == stream))
         ends (ended_on h i s stream (Bytes bytes)) before
       where
         same_taken : (b : Bool) → taken h i stream ++ (if b then [] else []) ≡ taken h i stream
@@ -137,7 +137,7 @@ on_bytes plan h i s stream bytes reads legal force is was = go (s == stream) ref
       unended = ends ∙ before.unended;
       bytes =
           own_open h i s stream (Bytes bytes) ∙ ap (λ (b : Bool). if b then open_bytes h i stream ++ bytes else open_bytes h i stream) same
-          ∙ ap (λ (w : Word). w ++ bytes) before.bytes
+          ∙ ap (λ (w : ByteString). w ++ bytes) before.bytes
           ∙ sym (own_taken h i s stream (Bytes bytes) ∙ ap (λ (b : Bool). taken h i stream ++ (if b then bytes else [])) same);
       events =
           own_read h i s (Bytes bytes)
@@ -145,7 +145,7 @@ on_bytes plan h i s stream bytes reads legal force is was = go (s == stream) ref
           ∙ ap (λ es. lines_of settings (taken h i stream) false ++ es)
           (own_events plan h i s (Bytes bytes) (taken h i stream) reads legal.1 force (this_stream h i s stream (Bytes bytes) same ∙ before.bytes))
           ∙ adds settings (taken h i stream) (Bytes bytes)
-          ∙ ap (λ (w : Word). lines_of settings w false)
+          ∙ ap (λ (w : ByteString). lines_of settings w false)
           (sym (own_taken h i s stream (Bytes bytes) ∙ ap (λ (b : Bool). taken h i stream ++ (if b then bytes else [])) same));
     })
     go true same (inr before) =

@@ -1,6 +1,6 @@
 -- A transform answers by one rule: what its conditions say of an event they say of it once.
 use Rattle.std.proofs.Common.{◌≡◌, ℕ, Bool, List, [], ◌∷◌, sym, ap, ◌∙◌, refl}
-use Rattle.vx_value.specs.Texts.{Word}
+use Rattle.vx_value.specs.Texts.{ByteString}
 use Rattle.vx_value.specs.Datum.{NamedDatum}
 use Rattle.vx_value.specs.declared.event.Event.{Event}
 use Rattle.vx_condition.specs.Trees.{Disjunction}
@@ -14,16 +14,16 @@ use Rattle.vx_record.specs.Transforms.{Rule, Means, AllMean, RunsBy, rule_of}
 use Rattle.vx_record.proofs.Rules.{some_is, rule_is, mean_is}
 
 -- a condition says one thing of an event
-one_answer : (text : Word) (fields : List NamedDatum) (a b : Bool) → Says text fields a → Says text fields b → a ≡ b
+one_answer : (text : ByteString) (fields : List NamedDatum) (a b : Bool) → Says text fields a → Says text fields b → a ≡ b
 one_answer text fields a b s t =
     s.meant ∙ (ap (λ (tree : Disjunction). disjunction_holds tree fields) (one_tree s.tree t.tree text s.condition.spelled t.condition.spelled) ∙ sym t.meant)
 
 -- so it means one test
-one_test : (text : Word) (test other : Test) → Means text test → Means text other → test ≡ other
+one_test : (text : ByteString) (test other : Test) → Means text test → Means text other → test ≡ other
 one_test text test other m n = λ i. λ (e : Event). one_answer text e.fields (test e) (other e) (m e) (n e) i
 
 -- and some conditions mean one list of tests
-one_meaning : (texts : List Word) (tests others : List Test) → AllMean texts tests → AllMean texts others → tests ≡ others
+one_meaning : (texts : List ByteString) (tests others : List Test) → AllMean texts tests → AllMean texts others → tests ≡ others
 one_meaning [] [] [] m n = refl
 one_meaning (text ∷ texts) (test ∷ tests) (other ∷ others) m n =
     ap (λ (t : Test). t ∷ tests) (one_test text test other m.0 n.0) ∙ ap (λ (ts : List Test). other ∷ ts) (one_meaning texts tests others m.1 n.1)

@@ -3,7 +3,7 @@ use Rattle.std.proofs.Common.{◌≡◌, ℕ, ◌+◌, ◌<◌, Bool, true, fals
 use Rattle.std.specs.Prelude.{◌==◌, ◌&&◌, if◌then◌else◌, slice_get}
 use Rattle.std.proofs.lemmas.Bool.{eqb-true, eq-eqb}
 use Rattle.std.proofs.lemmas.List.{append_assoc, append-nil}
-use Rattle.vx_value.specs.Texts.{Word}
+use Rattle.vx_value.specs.Texts.{ByteString}
 use Rattle.vx_value.specs.declared.event.Event.{Event}
 use Rattle.vx_ends.specs.declared.trouble.Reply.{Reply}
 use Rattle.vx_ends.specs.declared.trouble.Reply.TheVariants as reply
@@ -48,7 +48,7 @@ pub unfailed_before : (h : Record) (e : _) (k : ℕ) → Unfailed (e ∷ h) k �
 unfailed_before h e k un = let f = un.faults in let r = un.refusals in record { faults = omega (arith, f); refusals = omega (arith, r) }
 
 -- so each was answered Ok
-pub answered_ok : (h : Record) (k : ℕ) (copies : List ℕ) (bytes : Word) (answer : Reply) → Unfailed (Attempt k copies bytes answer ∷ h) k → answer ≡ reply.Ok
+pub answered_ok : (h : Record) (k : ℕ) (copies : List ℕ) (bytes : ByteString) (answer : Reply) → Unfailed (Attempt k copies bytes answer ∷ h) k → answer ≡ reply.Ok
 answered_ok h k copies bytes answer un = go answer un.faults un.refusals
   where
     self : (k == k) ≡ true
@@ -90,11 +90,11 @@ given_events (e ∷ h) k = given_events h k
 encode-append : (codec : Codec) (xs ys : List Event) → encode codec (xs ++ ys) ≡ encode codec xs ++ encode codec ys
 encode-append codec [] ys = refl
 encode-append codec (x ∷ xs) ys =
-    ap (λ (w : Word). encoded_event codec x.fields ++ w) (encode-append codec xs ys)
+    ap (λ (w : ByteString). encoded_event codec x.fields ++ w) (encode-append codec xs ys)
     ∙ sym (append_assoc (encoded_event codec x.fields) (encode codec xs) (encode codec ys))
 
 -- an attempt's bytes are those of all that the sink holds
-whole_bytes : (plan : Plan) (h : Record) (k : ℕ) (codec : Codec) (copies : List ℕ) (bytes : Word) (answer : Reply) → Writes plan k codec → in_force h ≡ Some plan →
+whole_bytes : (plan : Plan) (h : Record) (k : ℕ) (codec : Codec) (copies : List ℕ) (bytes : ByteString) (answer : Reply) → Writes plan k codec → in_force h ≡ Some plan →
     IsLegal (Attempt k copies bytes answer ∷ h) → answer ≡ reply.Ok → bytes ≡ encode codec (events_at h (Held k))
 whole_bytes plan h k codec copies bytes answer writes force legal ok =
     legal.0.row.whole ok
@@ -118,8 +118,8 @@ given_bytes plan (Attempt j copies bytes answer ∷ h) k codec writes legal forc
     go true is ih =
         let same = eqb-true j k is in
         let ok = answered_ok h k copies bytes answer (subst (λ (n : ℕ). Unfailed (Attempt n copies bytes answer ∷ h) k) same un) in
-        ap (λ (w : Word). w ++ bytes) ih
-        ∙ ap (λ (w : Word). encode codec (given_events h k) ++ w)
+        ap (λ (w : ByteString). w ++ bytes) ih
+        ∙ ap (λ (w : ByteString). encode codec (given_events h k) ++ w)
         (whole_bytes plan h k codec copies bytes answer writes force (subst (λ (n : ℕ). IsLegal (Attempt n copies bytes answer ∷ h)) same legal) ok)
         ∙ sym (encode-append codec (given_events h k) (events_at h (Held k)))
     go false is ih =

@@ -33,7 +33,7 @@ use Rattle.vx_plain.proofs.FirstPorts.{out_first}
 
 -- where a spent copy stood: it was held, or is the newest that a full target drops, or nobody reads it
 pub data Whence (h : Record) (j c : ℕ) : Type 0 where
-  from_hand : IsAt h (Held j) c → Whence h j c
+  from_held : IsAt h (Held j) c → Whence h j c
   from_waiting : (t : ℕ) → WasNewest h j c t → Whence h j c
   from_outputs : HadNoTarget h j c → Whence h j c
 
@@ -43,10 +43,10 @@ at_held h j c legal l = subst (λ (ps : List (List ℕ)). 0 < count c (joined ps
 
 -- each spend of a run that wasn't given up has such a place
 pub spent_whence : (h : Record) (j c : ℕ) (outcome : Outcome) → IsLegal h → abandoned h ≡ false → MaySpend h j c outcome → Whence h j c
-spent_whence h j c Delivered legal whole may = from_hand (at_held h j c legal (decided_held h j c Delivered legal tt may))
-spent_whence h j c Refusal legal whole may = from_hand (at_held h j c legal (decided_held h j c Refusal legal tt may))
-spent_whence h j c Attempts legal whole may = from_hand (at_held h j c legal (decided_held h j c Attempts legal tt may))
-spent_whence h j c Filtered legal whole may = from_hand (at_held h j c legal (decided_held h j c Filtered legal tt may))
+spent_whence h j c Delivered legal whole may = from_held (at_held h j c legal (decided_held h j c Delivered legal tt may))
+spent_whence h j c Refusal legal whole may = from_held (at_held h j c legal (decided_held h j c Refusal legal tt may))
+spent_whence h j c Attempts legal whole may = from_held (at_held h j c legal (decided_held h j c Attempts legal tt may))
+spent_whence h j c Filtered legal whole may = from_held (at_held h j c legal (decided_held h j c Filtered legal tt may))
 spent_whence h j c NewestDropped legal whole may = from_waiting may.cause.0 may.cause.1
 spent_whence h j c NoConsumer legal whole may = from_outputs may.cause
 spent_whence h j c Abandoned legal whole may = let no : true ≡ false = sym may.cause.0 ∙ whole in cc
@@ -115,7 +115,7 @@ spent_outputs plan h i t j c outcome sends feeds run may =
     spent_stays h j c outcome (Outputs i) run.legal (λ same. go same (spent_whence h j c outcome run.legal run.whole may))
   where
     go : j ≡ i → Whence h j c → count c (joined (at h (Outputs i))) ≡ 0
-    go same (from_hand l) = not_at h (Held j) (Outputs i) c run.legal refl l
+    go same (from_held l) = not_at h (Held j) (Outputs i) c run.legal refl l
     go same (from_waiting u was) = not_at h (Waiting j u) (Outputs i) c run.legal refl (newest_at h j c u run.legal was)
     go same (from_outputs was) =
         let here : HadNoTarget h i c = subst (λ (k : ℕ). HadNoTarget h k c) same was in
@@ -141,7 +141,7 @@ spent_waiting plan h i t j c outcome buffers run may =
         apart false = refl
 
     go : Whence h j c → count c (joined (at h (Waiting i t))) ≡ 0
-    go (from_hand l) = not_at h (Held j) (Waiting i t) c run.legal refl l
+    go (from_held l) = not_at h (Held j) (Waiting i t) c run.legal refl l
     go (from_waiting u was) = newest u was (u == t) refl
     go (from_outputs was) = not_at h (Outputs j) (Waiting i t) c run.legal refl (unread_at h j c run.legal was)
 
@@ -152,6 +152,6 @@ spent_contents plan h t s j c outcome run may =
     spent_stays h j c outcome (Contents t s) run.legal (λ same. go (spent_whence h j c outcome run.legal run.whole may))
   where
     go : Whence h j c → count c (joined (at h (Contents t s))) ≡ 0
-    go (from_hand l) = not_at h (Held j) (Contents t s) c run.legal refl l
+    go (from_held l) = not_at h (Held j) (Contents t s) c run.legal refl l
     go (from_waiting u was) = not_at h (Waiting j u) (Contents t s) c run.legal refl (newest_at h j c u run.legal was)
     go (from_outputs was) = not_at h (Outputs j) (Contents t s) c run.legal refl (unread_at h j c run.legal was)

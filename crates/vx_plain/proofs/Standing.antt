@@ -18,7 +18,7 @@ use Rattle.vx_record.specs.Legal.{IsLegal}
 use Rattle.vx_record.proofs.Counts.{count-append}
 use Rattle.vx_record.proofs.OnePlace.{conserved}
 use Rattle.vx_record.proofs.Changes.{NoneEmpty, none_empty}
-use Rattle.vx_record.proofs.Hands.{not_there}
+use Rattle.vx_record.proofs.HeldCopies.{not_there}
 use Rattle.vx_record.proofs.Events.{said_before}
 use Rattle.vx_record.proofs.Spenders.{stands_live}
 use Rattle.vx_record.proofs.Shifting.{stands_at}

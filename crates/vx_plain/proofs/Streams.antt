@@ -3,7 +3,7 @@ use Rattle.std.proofs.Common.{◌≡◌, ℕ, ◌<◌, Bool, true, false, List, 
 use Rattle.std.specs.Prelude.{◌≢◌, ◌==◌, ◌&&◌, if◌then◌else◌, unwrap_or}
 use Rattle.std.proofs.lemmas.Bool.{eqb-true, eq-eqb}
 use Rattle.std.proofs.lemmas.List.{append_assoc, append-nil, length-append}
-use Rattle.vx_value.specs.Texts.{Word}
+use Rattle.vx_value.specs.Texts.{ByteString}
 use Rattle.vx_record.specs.declared.taken.Taken.{Taken}
 use Rattle.vx_record.specs.declared.taken.Taken.TheVariants.{Bytes, StreamEnded, AllEnded}
 use Rattle.vx_record.specs.declared.entry.Entry.{Entry}
@@ -60,7 +60,7 @@ pub own_taken : (h : Record) (i s t : ℕ) (took : Taken) → taken (Read i s to
 own_taken h i s t took = ap (λ (b : Bool). taken h i t ++ (if b && (s == t) then bytes_of took else [])) (eq-eqb i i refl)
 
 -- of another stream it takes no bytes
-pub none_new : (h : Record) (i s stream : ℕ) (bytes : Word) → OneStream (Read i s (Bytes bytes) ∷ h) i stream → s ≢ stream → bytes ≡ []
+pub none_new : (h : Record) (i s stream : ℕ) (bytes : ByteString) → OneStream (Read i s (Bytes bytes) ∷ h) i stream → s ≢ stream → bytes ≡ []
 none_new h i s stream bytes is apart =
     none_right (taken h i s) bytes
     (ap (λ (b : Bool). taken h i s ++ (if b then bytes else [])) (sym (eq-eqb s s refl)) ∙ sym (own_taken h i s s (Bytes bytes)) ∙ is.one s apart)
@@ -75,7 +75,7 @@ others_shut (Read j s took ∷ h) i stream other is apart = go took is (others_s
       where
         here : (a : Bool) → (j == i) ≡ a → (b : Bool) → (s == other) ≡ b → (if a && b then open_bytes h i other ++ bytes else open_bytes h i other) ≡ []
         here true own true same =
-            ap (λ (w : Word). w ++ bytes) ih
+            ap (λ (w : ByteString). w ++ bytes) ih
             ∙ none_new h i s stream bytes (subst (λ (n : ℕ). OneStream (Read n s (Bytes bytes) ∷ h) i stream) (eqb-true j i own) is)
             (λ e. apart (sym (eqb-true s other same) ∙ e))
         here true own false same = ih
@@ -115,7 +115,7 @@ none_taken AllEnded none = refl
 -- a Read that takes nothing of the source leaves that
 last_on : (o : Option ℕ) (h : Record) (e : Entry) (i : ℕ) → ((s : ℕ) → taken (e ∷ h) i s ≡ taken h i s) → IsLast o h i → IsLast o (e ∷ h) i
 last_on None h e i same is = λ s. same s ∙ is s
-last_on (Some s) h e i same is = subst (λ (w : Word). 0 < length w) (sym (same s)) is
+last_on (Some s) h e i same is = subst (λ (w : ByteString). 0 < length w) (sym (same s)) is
 
 -- so it is of each record
 last_given : (h : Record) (i : ℕ) → IsLast (last_stream h i) h i
@@ -126,7 +126,7 @@ last_given (Read j s took ∷ h) i = go (j == i) refl (has_bytes took) refl (las
     e = Read j s took
 
     nothing : (a : Bool) → a && has_bytes took ≡ false → (t : ℕ) → taken h i t ++ (if a && (s == t) then bytes_of took else []) ≡ taken h i t
-    nothing true none t = ap (λ (w : Word). taken h i t ++ w) (either_way (s == t)) ∙ append-nil (taken h i t)
+    nothing true none t = ap (λ (w : ByteString). taken h i t ++ w) (either_way (s == t)) ∙ append-nil (taken h i t)
       where
         either_way : (b : Bool) → (if b then bytes_of took else []) ≡ []
         either_way true = none_taken took none
@@ -154,4 +154,4 @@ none_of_one h i stream is apart = go (last_stream h i) (last_given h i) apart
   where
     go : (o : Option ℕ) → IsLast o h i → unwrap_or o 0 ≢ stream → taken h i stream ≡ []
     go None none away = none stream
-    go (Some s) some away = let gone = ap (λ (w : Word). length w) (is.one s away) in absurd (omega (arith, some, gone))
+    go (Some s) some away = let gone = ap (λ (w : ByteString). length w) (is.one s away) in absurd (omega (arith, some, gone))

@@ -1,6 +1,6 @@
 -- A chain from a source through transforms that pick to a sink, a plain run of it, and what the sink writes then.
 use Rattle.std.specs.Prelude.{ℕ, ◌<◌, ◌≡◌, ◌≢◌, true, false, Some, None, List, [], ◌∷◌, ◌++◌, slice_get}
-use Rattle.vx_value.specs.Texts.{Word}
+use Rattle.vx_value.specs.Texts.{ByteString}
 use Rattle.vx_value.specs.declared.event.Event.{Event}
 use Rattle.vx_frame.specs.Frames.{frames}
 use Rattle.vx_json.specs.declared.codec.Codec.{Codec}
@@ -84,7 +84,7 @@ pub record Chain (plan : Plan) : Type 0 where
 -- no bytes of a stream came behind an end that was told of it alone
 abbrev pub NoneBehindEnd : Record → ℕ → ℕ → Type 0
 NoneBehindEnd h i stream =
-    (later earlier : Record) (bytes : Word) → later ++ Read i stream (Bytes bytes) ∷ earlier ≡ h → 0 < count stream (ended_streams earlier i) → bytes ≡ []
+    (later earlier : Record) (bytes : ByteString) → later ++ Read i stream (Bytes bytes) ∷ earlier ≡ h → 0 < count stream (ended_streams earlier i) → bytes ≡ []
 
 -- so it is where no end was told of it alone
 abbrev pub EndlessLaw : Type 0
@@ -106,7 +106,7 @@ pub record IsPlainRun {plan : Plan} (chain : Chain plan) (h : Record) (stream : 
 
 -- the events of the lines of some bytes that the source of a chain takes: of those within its limit, the last too though no line
 -- feed ends it
-abbrev pub events_in : {plan : Plan} → Chain plan → Word → List Event
+abbrev pub events_in : {plan : Plan} → Chain plan → ByteString → List Event
 events_in chain bytes = events_of_lines chain.reader.settings (frames bytes (longest_line chain.reader.settings) true)
 
 -- the events of the lines that it took

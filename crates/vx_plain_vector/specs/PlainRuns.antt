@@ -1,8 +1,8 @@
 -- A plain run as the top call tells it: by its clauses, and by what its ports tell.
 use Rattle.std.specs.Prelude.{ℕ, ◌≡◌, ◌≢◌, true, List, [], Option, Some, None, IfSome, slice_get}
-use Rattle.vx_value.specs.Texts.{Word}
+use Rattle.vx_value.specs.Texts.{ByteString}
 use Rattle.vx_value.specs.declared.variable.Variable.{Variable}
-use Rattle.vx_ends.specs.Told.{Told}
+use Rattle.vx_ends.specs.Observation.{Observation}
 use Rattle.vx_ends.specs.declared.world.Config.{Config}
 use Rattle.vx_plan.specs.declared.plan.Plan.{Plan}
 use Rattle.vx_plan.specs.Options.{has_device}
@@ -21,15 +21,15 @@ use Rattle.vx_plain.specs.Plain.{Chain, NoneBehindEnd, picked, events_in, events
 
 -- what the top call ensures of the record of a run that ended well: it is legal and leaves nothing to do, the input was read out, and
 -- what the answer says
-pub record HasRunWell (words : List Word) (environment : List Variable) (texts : Option (List Config)) (before now : ℕ) (h : Record) : Type 0 where
+pub record HasRunWell (words : List ByteString) (environment : List Variable) (texts : Option (List Config)) (before now : ℕ) (h : Record) : Type 0 where
   pub legal : IsLegal h
   pub complete : IsClosed h
   pub read : IsReadOut h None
   pub answer : IsAnswer words environment texts before now h None
 
 -- and of its plan and its ports: what they tell, and how they are numbered. There is one for each component of the plan in force
-pub record HasToldWell {P : Type 0} (told_by : P → Told) (words : List Word) (environment : List Variable) (texts : Option (List Config)) (h : Record) (ports : List (Numbered P)) : Type 0 where
-  pub told : IsTrueTo told_by h ports None
+pub record HasObservedWell {P : Type 0} (observe : P → Observation) (words : List ByteString) (environment : List Variable) (texts : Option (List Config)) (h : Record) (ports : List (Numbered P)) : Type 0 where
+  pub observed : IsTrueTo observe h ports None
   pub installed : HasInstalled words environment texts h None
   pub numbers : AreNumbered 0 ports
 
@@ -46,31 +46,31 @@ pub record PortAt {P : Type 0} (ports : List (Numbered P)) (i : ℕ) : Type 0 wh
   pub there : slice_get ports i ≡ Some numbered
 
 -- a port tells that these bytes were taken of one stream and none of another, and no end of that one alone
-pub record TookOne (told : Told) (stream : ℕ) (bytes : Word) : Type 0 where
-  pub taken : told.taken stream ≡ Some bytes
-  pub others : (other : ℕ) → other ≢ stream → told.taken other ≡ Some []
-  pub ended : count stream told.ended ≡ 0
+pub record TookOne (observed : Observation) (stream : ℕ) (bytes : ByteString) : Type 0 where
+  pub taken : observed.taken stream ≡ Some bytes
+  pub others : (other : ℕ) → other ≢ stream → observed.taken other ≡ Some []
+  pub ended : count stream observed.ended ≡ 0
 
 -- it tells that nothing failed and nothing was refused
-pub record NothingFailed (told : Told) : Type 0 where
-  pub faults : told.faults ≡ 0
-  pub refusals : told.refusals ≡ 0
+pub record NothingFailed (observed : Observation) : Type 0 where
+  pub faults : observed.faults ≡ 0
+  pub refusals : observed.refusals ≡ 0
 
 -- in a run that ended well, of a plan in force with a chain: by the record, what the sink was given is the encoding of what the
 -- transforms pass, one after the other, of the events of the lines that the source took
 abbrev pub PlainRecord : Type 0
 PlainRecord =
-    (words : List Word) (environment : List Variable) (texts : Option (List Config)) (before now : ℕ) (h : Record) →
+    (words : List ByteString) (environment : List Variable) (texts : Option (List Config)) (before now : ℕ) (h : Record) →
     HasRunWell words environment texts before now h → (plan : Plan) (chain : Chain plan) → in_force h ≡ Some plan → (stream : ℕ) → IsSmooth chain h stream →
     given h chain.sink ≡ encode chain.codec (picked chain.pickers (events_read chain h stream))
 
 -- and where the world tells its texts, and the words ask for a run of that plan: what the sink's port was given, where it tells that,
 -- is the encoding of what the transforms pass of the events of the lines of the bytes that the source's port tells
-abbrev pub PlainBytes : {P : Type 0} → (P → Told) → Type 0
-PlainBytes {P} told_by =
-    (words : List Word) (environment : List Variable) (configs : List Config) (before now : ℕ) (h : Record) (ports : List (Numbered P)) →
-    HasRunWell words environment (Some configs) before now h → HasToldWell told_by words environment (Some configs) h ports →
+abbrev pub PlainBytes : {P : Type 0} → (P → Observation) → Type 0
+PlainBytes {P} observe =
+    (words : List ByteString) (environment : List Variable) (configs : List Config) (before now : ℕ) (h : Record) (ports : List (Numbered P)) →
+    HasRunWell words environment (Some configs) before now h → HasObservedWell observe words environment (Some configs) h ports →
     (plan : Plan) (chain : Chain plan) → IsReady words environment (Some configs) plan → has_device chain.reader.settings ≡ true →
-    (source : PortAt ports chain.source) (sink : PortAt ports chain.sink) (stream : ℕ) (bytes : Word) →
-    TookOne (told_by source.numbered.port) stream bytes → NothingFailed (told_by sink.numbered.port) →
-    IfSome (told_by sink.numbered.port).given (λ written. written ≡ encode chain.codec (picked chain.pickers (events_in chain bytes)))
+    (source : PortAt ports chain.source) (sink : PortAt ports chain.sink) (stream : ℕ) (bytes : ByteString) →
+    TookOne (observe source.numbered.port) stream bytes → NothingFailed (observe sink.numbered.port) →
+    IfSome (observe sink.numbered.port).given (λ written. written ≡ encode chain.codec (picked chain.pickers (events_in chain bytes)))

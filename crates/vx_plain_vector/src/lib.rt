@@ -2,7 +2,7 @@
 //! proved.
 #![tactic(auto)]
 
-ghost use Rattle.vx_ends.specs.Silent.{told_if};
+ghost use Rattle.vx_ends.specs.Silent.{observed_if};
 ghost use Rattle.vx_plain_vector.specs.PlainRuns.{PlainRecord, PlainBytes};
 
 use vx_cli::one_command;
@@ -21,7 +21,7 @@ pub fn plain_record()
 /// transforms pass, one after the other, of the events of the lines of the bytes that the source's port tells, if these were of one
 /// stream that didn't end by itself, and if the sink's port failed and refused nothing.
 pub fn plain_bytes<P: Port>()
-    ensures { PlainBytes (told_if P.told) }
+    ensures { PlainBytes (observed_if P.observed) }
 {
     one_command();
     one_answer();

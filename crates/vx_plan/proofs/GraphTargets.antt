@@ -3,7 +3,7 @@ use Rattle.std.specs.Prelude.{◌≡◌, Bool, true, false, Option, Some, None, 
 use Rattle.std.proofs.Common.{◌∙◌, ap, sym}
 use Rattle.std.proofs.lemmas.List.{get_or-map}
 use Rattle.std.proofs.lemmas.List.Elements.{All-head, All-tail, All-cons, All-weaker}
-use Rattle.vx_value.specs.Texts.{Word, same_text, text_le}
+use Rattle.vx_value.specs.Texts.{ByteString, same_text, text_le}
 use Rattle.vx_value.proofs.Order.{same_text-true}
 use Rattle.vx_graph.specs.declared.node.Node.{Node}
 use Rattle.vx_graph.specs.Order.{node_le, enter as enter_node, in_order as nodes_in_order}
@@ -81,7 +81,7 @@ ordered_passing q (c ∷ rest) =
     go true later = ap (enter c.name) later
     go false later = later
 
-le_self : (s : Word) → text_le s s ≡ true
+le_self : (s : ByteString) → text_le s s ≡ true
 le_self s = go (text_le s s) refl
   where
     go : (b : Bool) → text_le s s ≡ b → text_le s s ≡ true
@@ -89,7 +89,7 @@ le_self s = go (text_le s s) refl
     go false e = le_total s s e
 
 -- the first component of a name, where one is put in
-find_put : (name : Word) (x : Node) (nodes : List Node) →
+find_put : (name : ByteString) (x : Node) (nodes : List Node) →
     find (λ (n : Node). same_text n.name name) (enter_node x nodes) ≡ (if same_text x.name name then Some x else find (λ (n : Node). same_text n.name name) nodes)
 unfolding enter_node
 find_put name x [] = refl
@@ -114,7 +114,7 @@ find_put name x (y ∷ nodes) = go (node_le x y) refl (find_put name x nodes)
     go false after rest = ap (λ o. if same_text y.name name then Some y else o) rest ∙ past (same_text x.name name) (same_text y.name name) refl refl after
 
 -- the first component of a name, in order
-find_ordered : (name : Word) (components : List Component) →
+find_ordered : (name : ByteString) (components : List Component) →
     node_named (nodes_in_order (map node_of components)) name ≡ option_map node_of (find (λ (c : Component). same_text c.name name) components)
 unfolding nodes_in_order
 find_ordered name [] = refl

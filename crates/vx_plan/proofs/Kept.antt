@@ -3,7 +3,7 @@ use Rattle.std.specs.Prelude.{ℕ, suc, ◌+◌, ◌≡◌, Bool, true, false, n
 use Rattle.std.specs.List.{position_or_len}
 use Rattle.std.proofs.Common.{◌∙◌, ap, arith}
 use Rattle.std.proofs.lemmas.Option.{unwrap_or-slice_get}
-use Rattle.vx_value.specs.Texts.{Word, same_text}
+use Rattle.vx_value.specs.Texts.{ByteString, same_text}
 use Rattle.vx_value.proofs.Order.{same_text-true}
 use Rattle.vx_plan.specs.declared.component.Component.{Component}
 use Rattle.vx_plan.specs.declared.plan.Plan.{Plan}
@@ -13,7 +13,7 @@ use Rattle.vx_plan.specs.Targets.{readers, all_targets, targets}
 use Rattle.vx_plan.proofs.Tests.{passing}
 
 -- whether a component has a name
-abbrev pub has_name : Word → Component → Bool
+abbrev pub has_name : ByteString → Component → Bool
 has_name name c = same_text c.name name
 
 -- what was made of the first item that passes a test stands at its place
@@ -27,7 +27,7 @@ at_place f p (x ∷ xs) = go (p x) (at_place f p xs)
     go false later = let next : 1 + position_or_len p xs ≡ suc (position_or_len p xs) = omega arith in ap (slice_get (f x ∷ map f xs)) next ∙ later
 
 -- the lists of the component of a name are its targets
-lists_of : (plan : Plan) (name : Word) →
+lists_of : (plan : Plan) (name : ByteString) →
     unwrap_or (slice_get (all_readers plan.components) (position_or_len (has_name name) plan.components)) [] ≡ all_targets plan name
 lists_of plan name =
     ap (λ o. unwrap_or o []) (at_place (readers_of plan.components) (has_name name) plan.components) ∙ go (component_named plan name) refl
@@ -40,7 +40,7 @@ lists_of plan name =
         ap (λ n. map (readers plan n) (port_names c)) named
 
 -- the list that is kept for a port, or none
-pub kept_targets : (viewed plan : Plan) (lists : List (List (List Word))) (components : List Component) (name : Word) (place port : ℕ) → viewed ≡ plan →
+pub kept_targets : (viewed plan : Plan) (lists : List (List (List ByteString))) (components : List Component) (name : ByteString) (place port : ℕ) → viewed ≡ plan →
     lists ≡ all_readers viewed.components → components ≡ viewed.components → place ≡ position_or_len (has_name name) components →
     unwrap_or (slice_get (unwrap_or (slice_get lists place) []) port) [] ≡ targets plan name port
 kept_targets viewed plan lists components name place port same kept all at =

@@ -3,7 +3,7 @@ use Rattle.std.specs.Prelude.{ℕ, zero, suc, ◌≡◌, ◌<◌, ◌≤◌, ◌
 use Rattle.std.specs.List.{list_any}
 use Rattle.std.proofs.Common.{◌∙◌, ap, sym, arith, inl, inr}
 use Rattle.std.proofs.lemmas.List.{length-map}
-use Rattle.vx_value.specs.Texts.{Word}
+use Rattle.vx_value.specs.Texts.{ByteString}
 use Rattle.vx_plan.specs.declared.component.Component.{Component}
 use Rattle.vx_plan.specs.declared.plan.Plan.{Plan}
 use Rattle.vx_plan.specs.Targets.{all_targets, acknowledges_named, is_among, leads_into, led, leading}
@@ -36,8 +36,8 @@ filter_few p (x ∷ xs) = go (p x) (filter_few p xs)
     go false few = omega (arith, few)
 
 -- what leads into some components leads into more
-into_more : (plan : Plan) (a b : List Word) → ((name : Word) → is_among a name ≡ true → is_among b name ≡ true) →
-    (name : Word) → leads_into plan a name ≡ true → leads_into plan b name ≡ true
+into_more : (plan : Plan) (a b : List ByteString) → ((name : ByteString) → is_among a name ≡ true → is_among b name ≡ true) →
+    (name : ByteString) → leads_into plan a name ≡ true → leads_into plan b name ≡ true
 into_more plan a b more name e = go (or_some (acknowledges_named plan name) (list_any (list_any (is_among a)) (all_targets plan name)) e)
   where
     go : (acknowledges_named plan name ≡ true) ⊎ (list_any (list_any (is_among a)) (all_targets plan name) ≡ true) → leads_into plan b name ≡ true
@@ -47,7 +47,7 @@ into_more plan a b more name e = go (or_some (acknowledges_named plan name) (lis
         (any_more (list_any (is_among a)) (list_any (is_among b)) (all_targets plan name) (λ names. any_more (is_among a) (is_among b) names more) there)
 
 -- a further step leads from more components
-rising : (n : ℕ) (plan : Plan) (name : Word) → is_among (leading n plan) name ≡ true → is_among (leading (suc n) plan) name ≡ true
+rising : (n : ℕ) (plan : Plan) (name : ByteString) → is_among (leading n plan) name ≡ true → is_among (leading (suc n) plan) name ≡ true
 rising zero plan name e = cc
 rising (suc n) plan name e =
     led_by plan (leading (suc n) plan) name
@@ -57,7 +57,7 @@ rising (suc n) plan name e =
 compared : (n : ℕ) (plan : Plan) → (length (leading n plan) < length (leading (suc n) plan)) ⊎ (leading n plan ≡ leading (suc n) plan)
 compared zero plan = go (leading 1 plan)
   where
-    go : (names : List Word) → (length {A = Word} [] < length names) ⊎ ([] ≡ names)
+    go : (names : List ByteString) → (length {A = ByteString} [] < length names) ⊎ ([] ≡ names)
     go [] = inr refl
     go (name ∷ names) = inl (omega arith)
 compared (suc n) plan =
@@ -97,4 +97,4 @@ all_found plan = go (so_many n plan) (compared n plan)
 
 pub acknowledged_on : AcknowledgedOn
 acknowledged_on plan source =
-    ap (λ (names : List Word). is_among names source) (all_found plan) ∙ led_by plan (leading (length plan.components) plan) source
+    ap (λ (names : List ByteString). is_among names source) (all_found plan) ∙ led_by plan (leading (length plan.components) plan) source

@@ -2,7 +2,7 @@
 use Rattle.std.specs.Prelude.{ℕ, zero, suc, ◌≡◌, ◌<◌, ◌≤◌, ◌⊎◌, Bool, true, false, not, ◌&&◌, ◌||◌, Option, Some, None, List, [], ◌∷◌, length, map, filter, find, option_map, refl, if◌then◌else◌}
 use Rattle.std.specs.List.{list_any}
 use Rattle.std.proofs.Common.{◌∙◌, ap, sym, arith, inl, inr, rules, Bor}
-use Rattle.vx_value.specs.Texts.{Word, same_text}
+use Rattle.vx_value.specs.Texts.{ByteString, same_text}
 use Rattle.vx_value.proofs.Order.{same_text-true, same_text-refl}
 use Rattle.vx_plan.specs.declared.component.Component.{Component}
 use Rattle.vx_plan.specs.declared.plan.Plan.{Plan}
@@ -17,7 +17,7 @@ use Rattle.vx_plan.proofs.Chains.{so_acknowledged}
 use Rattle.vx_plan.proofs.Walks.{acknowledged_is}
 
 -- a test of the readers of some port of a component
-any_reading : (f : Word → Bool) (components : List Component) (owner : Component) →
+any_reading : (f : ByteString → Bool) (components : List Component) (owner : Component) →
     list_any (λ port. list_any f (names_reading owner.name port components)) (port_names owner) ≡ list_any (λ c. reads_some owner c && f c.name) components
 any_reading f components owner =
     (λ i. list_any (λ port. any_filtered f (λ (c : Component). c.name) (λ (c : Component). reads c owner.name port) components i) (port_names owner))
@@ -25,7 +25,7 @@ any_reading f components owner =
     ∙ (λ i. list_any (λ (c : Component). any_and (λ port. reads c owner.name port) (f c.name) (port_names owner) i) components)
 
 -- a test of the targets of a component
-any_target : (f : Word → Bool) (plan : Plan) (name : Word) (owner : Component) → component_named plan name ≡ Some owner →
+any_target : (f : ByteString → Bool) (plan : Plan) (name : ByteString) (owner : Component) → component_named plan name ≡ Some owner →
     list_any (list_any f) (all_targets plan name) ≡ list_any (λ c. reads_some owner c && f c.name) plan.components
 any_target f plan name owner at =
     let named : owner.name ≡ name = same_text-true owner.name name (passing (λ (c : Component). same_text c.name name) plan.components owner at) in
@@ -35,12 +35,12 @@ any_target f plan name owner at =
     ∙ any_reading f plan.components owner
 
 -- a component that isn't there has no target and doesn't acknowledge, so it is passed
-pub passed_unknown : (plan : Plan) (seen : List Word) (name : Word) → component_named plan name ≡ None → is_passed plan seen name ≡ true
+pub passed_unknown : (plan : Plan) (seen : List ByteString) (name : ByteString) → component_named plan name ≡ None → is_passed plan seen name ≡ true
 passed_unknown plan seen name none =
     ap (λ (o : Option Component). not ((elim o [ None ↦ false | Some c ↦ acknowledges c ]) || list_any (list_any (is_unseen seen)) (elim o [ None ↦ [] | Some c ↦ map (readers plan name) (port_names c) ]))) none
 
 -- a component is passed where it doesn't acknowledge and no reader of it is left
-pub passed_all : (plan : Plan) (seen : List Word) (name : Word) (owner : Component) → component_named plan name ≡ Some owner → acknowledges owner ≡ false →
+pub passed_all : (plan : Plan) (seen : List ByteString) (name : ByteString) (owner : Component) → component_named plan name ≡ Some owner → acknowledges owner ≡ false →
     next_reader plan.components owner seen ≡ None → is_passed plan seen name ≡ true
 passed_all plan seen name owner at silent none =
     let quiet : acknowledges_named plan name ≡ false = ap (λ (o : Option Component). elim o [ None ↦ false | Some c ↦ acknowledges c ]) at ∙ silent in
@@ -48,7 +48,7 @@ passed_all plan seen name owner at silent none =
     any_target (is_unseen seen) plan name owner at ∙ none_found (λ (c : Component). c.name) (is_next owner seen) plan.components none in
     (λ i. not (quiet i || left i))
 
-passed_parts : (plan : Plan) (seen : List Word) (name : Word) → is_passed plan seen name ≡ true →
+passed_parts : (plan : Plan) (seen : List ByteString) (name : ByteString) → is_passed plan seen name ≡ true →
     (acknowledges_named plan name ≡ false) × (list_any (list_any (is_unseen seen)) (all_targets plan name) ≡ false)
 passed_parts plan seen name passed = or_none (acknowledges_named plan name) (list_any (list_any (is_unseen seen)) (all_targets plan name)) (turned _ passed)
   where
@@ -61,22 +61,22 @@ turned true e = refl
 turned false e = sym e
 
 -- a target of what is passed was seen
-target_seen : (f : Word → Bool) (plan : Plan) (seen : List Word) (name : Word) → is_passed plan seen name ≡ true →
-    list_any (list_any f) (all_targets plan name) ≡ true → (t : Word) × (f t ≡ true) × (is_among seen t ≡ true)
+target_seen : (f : ByteString → Bool) (plan : Plan) (seen : List ByteString) (name : ByteString) → is_passed plan seen name ≡ true →
+    list_any (list_any f) (all_targets plan name) ≡ true → (t : ByteString) × (f t ≡ true) × (is_among seen t ≡ true)
 target_seen f plan seen name passed some =
     let (names, any, none) = parted (list_any f) (list_any (is_unseen seen)) (all_targets plan name) some (passed_parts plan seen name passed).1 in
     let (t, passes, there) = parted f (is_unseen seen) names any none in
     (t, passes, turned (is_among seen t) there)
 
 -- from what was seen a walk leads on by what is still to be walked from
-through : (steps : ℕ) (plan : Plan) (seen todo : List Word) → IsWalked plan seen todo → (name : Word) → is_among seen name ≡ true → leads steps plan name ≡ true →
+through : (steps : ℕ) (plan : Plan) (seen todo : List ByteString) → IsWalked plan seen todo → (name : ByteString) → is_among seen name ≡ true → leads steps plan name ≡ true →
     list_any (acknowledged plan) todo ≡ true
 through zero plan seen todo walked name there led = cc
 through (suc steps) plan seen todo walked name there led =
     go (or_some (is_among todo name) (is_passed plan seen name) (walked name there)) (through steps plan seen todo walked)
   where
     go : (is_among todo name ≡ true) ⊎ (is_passed plan seen name ≡ true) →
-        ((t : Word) → is_among seen t ≡ true → leads steps plan t ≡ true → list_any (acknowledged plan) todo ≡ true) → list_any (acknowledged plan) todo ≡ true
+        ((t : ByteString) → is_among seen t ≡ true → leads steps plan t ≡ true → list_any (acknowledged plan) todo ≡ true) → list_any (acknowledged plan) todo ≡ true
     go (inl here) rest = any_among (acknowledged plan) todo name here (so_acknowledged (suc steps) plan name led)
     go (inr passed) rest =
         let (silent, none) = passed_parts plan seen name passed in
@@ -85,7 +85,7 @@ through (suc steps) plan seen todo walked name there led =
         rest t seen_t led_on
 
 -- what is passed is left
-pub walked_left : (plan : Plan) (seen rest : List Word) (name : Word) → IsWalked plan seen (name ∷ rest) → is_passed plan seen name ≡ true → IsWalked plan seen rest
+pub walked_left : (plan : Plan) (seen rest : List ByteString) (name : ByteString) → IsWalked plan seen (name ∷ rest) → is_passed plan seen name ≡ true → IsWalked plan seen rest
 walked_left plan seen rest name walked passed other there = go (same_text other name) refl (walked other there)
   where
     go : (b : Bool) → same_text other name ≡ b → ((b || is_among rest other) || is_passed plan seen other) ≡ true → (is_among rest other || is_passed plan seen other) ≡ true
@@ -93,7 +93,7 @@ walked_left plan seen rest name walked passed other there = go (same_text other 
     go true same so = or_there (is_among rest other) (is_passed plan seen other) (ap (is_passed plan seen) (same_text-true other name same) ∙ passed)
 
 -- what is passed leads no further than the rest
-pub left_leads : (plan : Plan) (seen rest : List Word) (name : Word) → IsWalked plan seen rest → is_passed plan seen name ≡ true →
+pub left_leads : (plan : Plan) (seen rest : List ByteString) (name : ByteString) → IsWalked plan seen rest → is_passed plan seen name ≡ true →
     list_any (acknowledged plan) rest ≡ list_any (acknowledged plan) (name ∷ rest)
 left_leads plan seen rest name walked passed =
     same_when (list_any (acknowledged plan) rest) (list_any (acknowledged plan) (name ∷ rest)) (or_there (acknowledged plan name) (list_any (acknowledged plan) rest))
@@ -109,7 +109,7 @@ left_leads plan seen rest name walked passed =
         through (length plan.components) plan seen rest walked t seen_t (acknowledged_is plan t ∙ waits)
 
 -- what leads to a sink that acknowledges, among what is still to be walked from
-pub first_leads : (plan : Plan) (rest : List Word) (name : Word) (owner : Component) → component_named plan name ≡ Some owner → acknowledges owner ≡ true →
+pub first_leads : (plan : Plan) (rest : List ByteString) (name : ByteString) (owner : Component) → component_named plan name ≡ Some owner → acknowledges owner ≡ true →
     true ≡ list_any (acknowledged plan) (name ∷ rest)
 first_leads plan rest name owner at loud =
     let here : acknowledges_named plan name ≡ true = ap (λ (o : Option Component). elim o [ None ↦ false | Some c ↦ acknowledges c ]) at ∙ loud in
@@ -117,7 +117,7 @@ first_leads plan rest name owner at loud =
     sym (or_here (acknowledged plan name) (list_any (acknowledged plan) rest) waits)
 
 -- a test that more names don't pass
-fewer_unseen : (seen : List Word) (reader t : Word) → is_unseen (reader ∷ seen) t ≡ true → is_unseen seen t ≡ true
+fewer_unseen : (seen : List ByteString) (reader t : ByteString) → is_unseen (reader ∷ seen) t ≡ true → is_unseen seen t ≡ true
 fewer_unseen seen reader t e = go (same_text t reader) e
   where
     go : (b : Bool) → not (b || is_among seen t) ≡ true → not (is_among seen t) ≡ true
@@ -125,7 +125,7 @@ fewer_unseen seen reader t e = go (same_text t reader) e
     go false h = h
 
 -- what was passed stays so
-still_passed : (plan : Plan) (seen : List Word) (reader name : Word) → is_passed plan seen name ≡ true → is_passed plan (reader ∷ seen) name ≡ true
+still_passed : (plan : Plan) (seen : List ByteString) (reader name : ByteString) → is_passed plan seen name ≡ true → is_passed plan (reader ∷ seen) name ≡ true
 still_passed plan seen reader name passed = go (list_any (list_any (is_unseen (reader ∷ seen))) (all_targets plan name)) refl
   where
     parts : (acknowledges_named plan name ≡ false) × (list_any (list_any (is_unseen seen)) (all_targets plan name) ≡ false)
@@ -140,7 +140,7 @@ still_passed plan seen reader name passed = go (list_any (list_any (is_unseen (r
         cc
 
 -- a reader that wasn't seen is put, and seen
-pub walked_put : (plan : Plan) (seen todo : List Word) (reader : Word) → IsWalked plan seen todo → IsWalked plan (reader ∷ seen) (reader ∷ todo)
+pub walked_put : (plan : Plan) (seen todo : List ByteString) (reader : ByteString) → IsWalked plan seen todo → IsWalked plan (reader ∷ seen) (reader ∷ todo)
 walked_put plan seen todo reader walked other there = go (same_text other reader) there
   where
     go : (b : Bool) → (b || is_among seen other) ≡ true → ((b || is_among todo other) || is_passed plan (reader ∷ seen) other) ≡ true
@@ -152,7 +152,7 @@ walked_put plan seen todo reader walked other there = go (same_text other reader
         later (inr passed) = or_there (is_among todo other) (is_passed plan (reader ∷ seen) other) (still_passed plan seen reader other passed)
 
 -- a reader leads on where what it reads does
-pub put_leads : (plan : Plan) (seen rest : List Word) (name reader : Word) (owner : Component) → component_named plan name ≡ Some owner →
+pub put_leads : (plan : Plan) (seen rest : List ByteString) (name reader : ByteString) (owner : Component) → component_named plan name ≡ Some owner →
     next_reader plan.components owner seen ≡ Some reader →
     list_any (acknowledged plan) (reader ∷ name ∷ rest) ≡ list_any (acknowledged plan) (name ∷ rest)
 put_leads plan seen rest name reader owner at found =
@@ -171,11 +171,11 @@ put_leads plan seen rest name reader owner at found =
         or_here (acknowledged plan name) (list_any (acknowledged plan) rest) waits
 
 -- how many components weren't seen
-abbrev pub unseen_count : List Component → List Word → ℕ
+abbrev pub unseen_count : List Component → List ByteString → ℕ
 unseen_count components seen = length (filter (λ (c : Component). is_unseen seen c.name) components)
 
 -- one more is seen, and no fewer
-no_more_unseen : (components : List Component) (seen : List Word) (reader : Word) → unseen_count components (reader ∷ seen) ≤ unseen_count components seen
+no_more_unseen : (components : List Component) (seen : List ByteString) (reader : ByteString) → unseen_count components (reader ∷ seen) ≤ unseen_count components seen
 no_more_unseen [] seen reader = omega arith
 no_more_unseen (c ∷ rest) seen reader = go (is_unseen (reader ∷ seen) c.name) (is_unseen seen c.name) (fewer_unseen seen reader c.name) (no_more_unseen rest seen reader)
   where
@@ -188,7 +188,7 @@ no_more_unseen (c ∷ rest) seen reader = go (is_unseen (reader ∷ seen) c.name
     go false false imp less = less
 
 -- what is found next wasn't seen before
-pub fewer_left : (components : List Component) (owner : Component) (seen : List Word) (reader : Word) → next_reader components owner seen ≡ Some reader →
+pub fewer_left : (components : List Component) (owner : Component) (seen : List ByteString) (reader : ByteString) → next_reader components owner seen ≡ Some reader →
     unseen_count components (reader ∷ seen) < unseen_count components seen
 fewer_left [] owner seen reader found = cc
 fewer_left (c ∷ rest) owner seen reader found = go (is_next owner seen c) refl found (fewer_left rest owner seen reader)
@@ -214,14 +214,14 @@ fewer_left (c ∷ rest) owner seen reader found = go (is_next owner seen c) refl
     go false is found' rest' = later (is_unseen (reader ∷ seen) c.name) (is_unseen seen c.name) (fewer_unseen seen reader c.name) (rest' found')
 
 -- the names with one more
-pub names_more : (rest : Bor Names) (name : Bor Word) → names_in (One rest name) ≡ name.now ∷ names_in rest.now
+pub names_more : (rest : Bor Names) (name : Bor ByteString) → names_in (One rest name) ≡ name.now ∷ names_in rest.now
 names_more rest name = search (rules, the_lemmas)
 
 pub names_none : names_in Nobody ≡ []
 names_none = search (rules, the_lemmas)
 
 -- the walk from one component
-pub alone : (plan : Plan) (name : Bor Word) (rest : Bor Names) → names_in rest.now ≡ [] → list_any (acknowledged plan) (names_in (One rest name)) ≡ acknowledged plan name.now
+pub alone : (plan : Plan) (name : Bor ByteString) (rest : Bor Names) → names_in rest.now ≡ [] → list_any (acknowledged plan) (names_in (One rest name)) ≡ acknowledged plan name.now
 alone plan name rest none =
     ap (list_any (acknowledged plan)) (names_more rest name ∙ ap (λ names. name.now ∷ names) none) ∙ or_false (acknowledged plan name.now)
   where

@@ -2,7 +2,7 @@
 use Rattle.std.specs.Prelude.{◌≡◌, ◌⊎◌, Bool, true, false, ◌&&◌, ◌||◌, Some, None, option_map, List, [], ◌∷◌, map, filter, find, refl, if◌then◌else◌}
 use Rattle.std.specs.List.{list_any}
 use Rattle.std.proofs.Common.{◌∙◌, ap, sym, inl, inr}
-use Rattle.vx_value.specs.Texts.{Word, same_text}
+use Rattle.vx_value.specs.Texts.{ByteString, same_text}
 use Rattle.vx_value.proofs.Order.{same_text-true, same_text-refl}
 use Rattle.vx_plan.specs.Targets.{is_among}
 
@@ -56,7 +56,7 @@ parted f g (x ∷ xs) some none = go (or_none (g x) (list_any g xs) none) (or_so
     go none' (inr there) rest = rest there none'.1
 
 -- a text among some that passes a test
-pub any_among : (f : Word → Bool) (names : List Word) (name : Word) → is_among names name ≡ true → f name ≡ true → list_any f names ≡ true
+pub any_among : (f : ByteString → Bool) (names : List ByteString) (name : ByteString) → is_among names name ≡ true → f name ≡ true → list_any f names ≡ true
 any_among f [] name there passes = there
 any_among f (n ∷ names) name there passes = go (same_text name n) refl there (any_among f names name)
   where
@@ -66,24 +66,24 @@ any_among f (n ∷ names) name there passes = go (same_text name n) refl there (
     go false other there' rest = or_there (f n) (list_any f names) (rest there' passes)
 
 -- a text that passes a test, among some of which one does
-pub one_passing : (f : Word → Bool) (names : List Word) → list_any f names ≡ true → (name : Word) × (f name ≡ true) × (is_among names name ≡ true)
+pub one_passing : (f : ByteString → Bool) (names : List ByteString) → list_any f names ≡ true → (name : ByteString) × (f name ≡ true) × (is_among names name ≡ true)
 one_passing f [] some = cc
 one_passing f (n ∷ names) some = go (or_some (f n) (list_any f names) some) (one_passing f names)
   where
-    go : (f n ≡ true) ⊎ (list_any f names ≡ true) → (list_any f names ≡ true → (name : Word) × (f name ≡ true) × (is_among names name ≡ true)) →
-        (name : Word) × (f name ≡ true) × (is_among (n ∷ names) name ≡ true)
+    go : (f n ≡ true) ⊎ (list_any f names ≡ true) → (list_any f names ≡ true → (name : ByteString) × (f name ≡ true) × (is_among names name ≡ true)) →
+        (name : ByteString) × (f name ≡ true) × (is_among (n ∷ names) name ≡ true)
     go (inl here) rest = (n, here, or_here (same_text n n) (is_among names n) (same_text-refl n))
     go (inr there) rest = let (name, passes, among) = rest there in (name, passes, or_there (same_text name n) (is_among names name) among)
 
 -- the same among lists of texts
-pub one_within : (f : Word → Bool) (lists : List (List Word)) → list_any (list_any f) lists ≡ true →
-    (name : Word) × (f name ≡ true) × (list_any (λ names. is_among names name) lists ≡ true)
+pub one_within : (f : ByteString → Bool) (lists : List (List ByteString)) → list_any (list_any f) lists ≡ true →
+    (name : ByteString) × (f name ≡ true) × (list_any (λ names. is_among names name) lists ≡ true)
 one_within f [] some = cc
 one_within f (names ∷ lists) some = go (or_some (list_any f names) (list_any (list_any f) lists) some) (one_within f lists)
   where
     go : (list_any f names ≡ true) ⊎ (list_any (list_any f) lists ≡ true) →
-        (list_any (list_any f) lists ≡ true → (name : Word) × (f name ≡ true) × (list_any (λ ns. is_among ns name) lists ≡ true)) →
-        (name : Word) × (f name ≡ true) × (list_any (λ ns. is_among ns name) (names ∷ lists) ≡ true)
+        (list_any (list_any f) lists ≡ true → (name : ByteString) × (f name ≡ true) × (list_any (λ ns. is_among ns name) lists ≡ true)) →
+        (name : ByteString) × (f name ≡ true) × (list_any (λ ns. is_among ns name) (names ∷ lists) ≡ true)
     go (inl here) rest =
         let (name, passes, among) = one_passing f names here in
         (name, passes, or_here (is_among names name) (list_any (λ ns. is_among ns name) lists) among)
@@ -91,12 +91,12 @@ one_within f (names ∷ lists) some = go (or_some (list_any f names) (list_any (
         let (name, passes, among) = rest there in
         (name, passes, or_there (is_among names name) (list_any (λ ns. is_among ns name) lists) among)
 
-pub any_within : (f : Word → Bool) (lists : List (List Word)) (name : Word) → list_any (λ names. is_among names name) lists ≡ true → f name ≡ true →
+pub any_within : (f : ByteString → Bool) (lists : List (List ByteString)) (name : ByteString) → list_any (λ names. is_among names name) lists ≡ true → f name ≡ true →
     list_any (list_any f) lists ≡ true
 any_within f lists name among passes = any_more (λ names. is_among names name) (list_any f) lists (λ names there. any_among f names name there passes) among
 
 -- no item that a search finds
-pub none_found : {X : Type 0} (name : X → Word) (p : X → Bool) (xs : List X) → option_map name (find p xs) ≡ None → list_any p xs ≡ false
+pub none_found : {X : Type 0} (name : X → ByteString) (p : X → Bool) (xs : List X) → option_map name (find p xs) ≡ None → list_any p xs ≡ false
 none_found name p [] e = refl
 none_found name p (x ∷ xs) e = go (p x) e (none_found name p xs)
   where
@@ -105,7 +105,7 @@ none_found name p (x ∷ xs) e = go (p x) e (none_found name p xs)
     go false found rest = rest found
 
 -- an item that a search finds: it passes, and so do some items each test that it passes
-pub some_found : {X : Type 0} (name : X → Word) (p : X → Bool) (xs : List X) (n : Word) → option_map name (find p xs) ≡ Some n →
+pub some_found : {X : Type 0} (name : X → ByteString) (p : X → Bool) (xs : List X) (n : ByteString) → option_map name (find p xs) ≡ Some n →
     (x : X) × (name x ≡ n) × (p x ≡ true) × ((q : X → Bool) → q x ≡ true → list_any q xs ≡ true)
 some_found name p [] n e = cc
 some_found name p (x ∷ xs) n e = go (p x) refl e (some_found name p xs n)
@@ -158,7 +158,7 @@ any_and p b (x ∷ xs) = ap (λ c. (p x && b) || c) (any_and p b xs) ∙ go (p x
     go false c d = refl
 
 -- a test of the names of what passes another
-pub any_filtered : {X : Type 0} (f : Word → Bool) (name : X → Word) (p : X → Bool) (xs : List X) →
+pub any_filtered : {X : Type 0} (f : ByteString → Bool) (name : X → ByteString) (p : X → Bool) (xs : List X) →
     list_any f (map name (filter p xs)) ≡ list_any (λ x. p x && f (name x)) xs
 any_filtered f name p [] = refl
 any_filtered f name p (x ∷ xs) = go (p x) (any_filtered f name p xs)

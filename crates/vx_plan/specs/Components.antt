@@ -1,6 +1,6 @@
 -- What a component is, and what its options mean.
 use Rattle.std.specs.Prelude.{ℕ, ◌*◌, Bool, true, false, Option, Some, None, List, [], ◌∷◌, find, unwrap_or}
-use Rattle.vx_value.specs.Texts.{Word, same_text}
+use Rattle.vx_value.specs.Texts.{ByteString, same_text}
 use Rattle.vx_json.specs.Waits.{wait_after}
 use Rattle.vx_plan.specs.Options.{sink_options, line_limit, transform_ports}
 use Rattle.vx_plan.specs.declared.class.Class.TheVariants.{Source, Transform, Sink}
@@ -12,7 +12,7 @@ use Rattle.vx_plan.specs.declared.stage.Stage.{Stage}
 use Rattle.vx_plan.specs.declared.when_full.WhenFull.TheVariants.{Block}
 
 -- the component of that name
-abbrev pub component_named : Plan → Word → Option Component
+abbrev pub component_named : Plan → ByteString → Option Component
 component_named plan name = find (λ (c : Component). same_text c.name name) plan.components
 
 -- whether it stands in the table of sources
@@ -28,7 +28,7 @@ abbrev pub is_sink : Component → Bool
 is_sink c = elim c.class [ Source ↦ false | Transform ↦ false | Sink ↦ true ]
 
 -- the names of a component's ports, in order; the only port of most components has the empty name
-abbrev pub port_names : Component → List Word
+abbrev pub port_names : Component → List ByteString
 port_names c = elim c.class [ Source ↦ [] ∷ [] | Transform ↦ transform_ports c.settings | Sink ↦ [] ]
 
 -- what a component's sink options say, or a value where it has none

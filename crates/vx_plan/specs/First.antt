@@ -10,14 +10,14 @@ use Rattle.vx_plan.specs.declared.plan.Plan.{Plan}
 use Rattle.vx_plan.specs.declared.settings.Settings.TheVariants.{Stdin, Console}
 use Rattle.vx_plan.specs.declared.sink_settings.SinkSettings.{SinkSettings}
 use Rattle.vx_plan.specs.declared.when_full.WhenFull.TheVariants.{Block}
-use Rattle.vx_value.specs.Texts.{Word}
+use Rattle.vx_value.specs.Texts.{ByteString}
 
 -- its bytes
-abbrev pub first_configuration : Word
+abbrev pub first_configuration : ByteString
 first_configuration =
     codes "[sources.in]\ntype = \"stdin\"\n\n[sinks.out]\ntype = \"console\"\ninputs = [\"in\"]\nencoding.codec = \"text\"\n"
 
--- the options of a whole configuration that says none
+-- the global options of a configuration that says none
 abbrev pub default_global : Global
 default_global = record { data_dir = codes "/var/lib/vector/"; acknowledgements = false }
 

@@ -1,6 +1,6 @@
 -- What settings say, one accessor for each option, so that a new type of component adds one line to each.
 use Rattle.std.specs.Prelude.{ℕ, ◌*◌, ◌^◌, ◌-◌, Bool, true, false, Option, Some, None, List, [], ◌∷◌, ◌++◌, map, codes}
-use Rattle.vx_value.specs.Texts.{Word}
+use Rattle.vx_value.specs.Texts.{ByteString}
 use Rattle.vx_json.specs.declared.codec.Codec.{Codec}
 use Rattle.vx_json.specs.declared.decoding.Decoding.{Decoding}
 use Rattle.vx_json.specs.declared.decoding.Decoding.TheVariants.{Bytes}
@@ -38,7 +38,7 @@ encoding (FileOut path compression codec sink) = Some codec
 encoding other = None
 
 -- the path of the file that a source reads
-abbrev pub file_read : Settings → Option Word
+abbrev pub file_read : Settings → Option ByteString
 file_read (FileIn most path from codec) = Some path
 file_read other = None
 
@@ -61,7 +61,7 @@ has_device (FileOut path compression codec sink) = true
 has_device other = false
 
 -- the name of the type
-abbrev pub type_name : Settings → Word
+abbrev pub type_name : Settings → ByteString
 type_name (Stdin max_length codec) = 115 ∷ 116 ∷ 100 ∷ 105 ∷ 110 ∷ []
 type_name (FileIn most path from codec) = codes "file"
 type_name (DemoLogs demo interval) = codes "demo_logs"
@@ -76,12 +76,12 @@ type_name (FileOut path compression codec sink) = codes "file"
 type_name (Blackhole seconds sink) = codes "blackhole"
 
 -- a text, if there is one
-abbrev pub if_any : Option Word → List Word
+abbrev pub if_any : Option ByteString → List ByteString
 if_any None = []
 if_any (Some text) = text ∷ []
 
 -- the conditions of a transform, in the order of the options' paths
-abbrev pub conditions_of : Settings → List Word
+abbrev pub conditions_of : Settings → List ByteString
 conditions_of (Filter condition) = condition ∷ []
 conditions_of (Route routes reroute) = map (λ (way : Way). way.condition) routes
 conditions_of (Sample rate exclude) = if_any exclude
@@ -89,6 +89,6 @@ conditions_of (Reduce group_by starts_when ends_when expire flush strategies) = 
 conditions_of other = []
 
 -- the names of a transform's ports, in order: a route has one for each of its ways, and one for what no way takes; another has one, with the empty name
-abbrev pub transform_ports : Settings → List Word
+abbrev pub transform_ports : Settings → List ByteString
 transform_ports (Route routes reroute) = map (λ (way : Way). way.name) routes ++ codes "_unmatched" ∷ []
 transform_ports other = [] ∷ []

@@ -86,7 +86,7 @@ fn default_sink(alloc: Allocator) -> Result<SinkSettings, WantOfMemory>
     })
 }
 
-/// The options of a whole configuration that says none.
+/// The global options of a configuration that says none.
 fn default_global(alloc: Allocator) -> Result<Global, WantOfMemory>
     ensures { IfOk result (λ global. global ≡ default_global) }
 {

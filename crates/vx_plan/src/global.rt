@@ -3,7 +3,7 @@ ghost use Rattle.std.specs.Prelude.{◌≡◌, IfOk};
 use std::alloc::Global as Allocator;
 use vx_value::{Text, WantOfMemory};
 
-/// The options of the whole configuration.
+/// The global options.
 #[derive(Drop)]
 pub struct Global {
     /// The folder in which checkpoints are kept.

@@ -41,7 +41,7 @@ impl Model for Plan {
 }
 
 impl Plan {
-    /// The plan of the options of a whole configuration and of its components.
+    /// The plan of a configuration's global options and of its components.
     pub fn new(
         alloc: Allocator,
         global: Global,

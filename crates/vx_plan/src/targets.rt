@@ -1,6 +1,6 @@
 ghost use Rattle.std.specs.Prelude.{◌≡◌, ◌+◌, ◌++◌, ◌==◌, ℕ, [], IfOk, OnOk, map, filter, length};
 ghost use Rattle.std.specs.List.{list_any};
-ghost use Rattle.vx_value.specs.Texts.{Word};
+ghost use Rattle.vx_value.specs.Texts.{ByteString};
 ghost use Rattle.vx_plan.specs.declared.component.Component.{Component};
 ghost use Rattle.vx_plan.specs.Kept.{readers_of, all_readers};
 ghost use Rattle.vx_plan.specs.Numbers.{numbers_named, numbers_of_names};

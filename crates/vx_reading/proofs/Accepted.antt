@@ -3,7 +3,7 @@ use Rattle.std.proofs.Common.{◌≡◌, Bool, true, false, List, [], ◌∷◌,
 use Rattle.std.specs.Prelude.{map, not, ◌&&◌, ◌||◌, option_and_then}
 use Rattle.std.specs.List.{AllByRecursion, list_any, list_all, flat_map}
 use Rattle.toml.specs.Data.{Data, as_str}
-use Rattle.vx_value.specs.Texts.{Word, same_text, is_empty}
+use Rattle.vx_value.specs.Texts.{ByteString, same_text, is_empty}
 use Rattle.vx_graph.specs.Faults.{IsAccepted}
 use Rattle.vx_graph.specs.Order.{in_order}
 use Rattle.vx_plan.specs.Components.{is_source}
@@ -30,7 +30,7 @@ use Rattle.vx_reading.specs.Reading.{IsPlanOf, IsJudged}
 use Rattle.vx_reading.proofs.Apart.{judged_apart}
 
 -- a name that is none of some components'
-none_named : (name : Word) (components : List Component) → AllByRecursion (λ (other : Word). same_text other name ≡ false) (names_of components) →
+none_named : (name : ByteString) (components : List Component) → AllByRecursion (λ (other : ByteString). same_text other name ≡ false) (names_of components) →
     list_any (λ (d : Component). same_text d.name name) components ≡ false
 none_named name [] all = refl
 none_named name (c ∷ rest) all = ap (λ b. b || list_any (λ (d : Component). same_text d.name name) rest) all.0 ∙ none_named name rest all.1
@@ -41,13 +41,13 @@ apart_differ [] apart = refl
 apart_differ (c ∷ rest) apart = (λ i. not (none_named c.name rest apart.0 i) && apart_differ rest apart.1 i)
 
 -- what is a transform may read others
-transform_reads : (class : Class) (inputs : List Word) → same_class Transform class ≡ true → (not (elim class [ Source ↦ true | Transform ↦ false | Sink ↦ false ]) || is_empty inputs) ≡ true
+transform_reads : (class : Class) (inputs : List ByteString) → same_class Transform class ≡ true → (not (elim class [ Source ↦ true | Transform ↦ false | Sink ↦ false ]) || is_empty inputs) ≡ true
 transform_reads Source inputs e = cc
 transform_reads Transform inputs e = refl
 transform_reads Sink inputs e = refl
 
 -- so may a sink
-sink_reads : (class : Class) (inputs : List Word) → same_class Sink class ≡ true → (not (elim class [ Source ↦ true | Transform ↦ false | Sink ↦ false ]) || is_empty inputs) ≡ true
+sink_reads : (class : Class) (inputs : List ByteString) → same_class Sink class ≡ true → (not (elim class [ Source ↦ true | Transform ↦ false | Sink ↦ false ]) || is_empty inputs) ≡ true
 sink_reads Source inputs e = cc
 sink_reads Transform inputs e = refl
 sink_reads Sink inputs e = refl
@@ -144,7 +144,7 @@ kind_staged whole part Blackhole same = go part.class same
 pub kind_class_of : (part : Part) (kind : Kind) → kind_of part ≡ Some kind → same_class (kind_class kind) part.class ≡ true
 kind_class_of part kind is = go (option_and_then as_str (type_in part.value)) is
   where
-    go : (o : Option Word) → option_and_then (kind_named part.class) o ≡ Some kind → same_class (kind_class kind) part.class ≡ true
+    go : (o : Option ByteString) → option_and_then (kind_named part.class) o ≡ Some kind → same_class (kind_class kind) part.class ≡ true
     go None e = cc
     go (Some text) e =
         (and_both (same_class (kind_class kind) part.class) (same_text (kind_name kind) text)
@@ -162,7 +162,7 @@ each_passes test whole passes (part ∷ rest) = go (kind_of part) refl (each_pas
     go (Some kind) is later = and_made (test (component whole part kind)) (list_all test (flat_map (component_of whole) rest)) (passes part kind (kind_class_of part kind is)) later
 
 -- the plan that is answered of a document may be installed
-pub judged_accepted : (refuses : Word → Bool) (root : Data) (answer : Result Plan PlanFault) → AreApartByClass root → IsJudged refuses root answer → IfOk answer IsPlan
+pub judged_accepted : (refuses : ByteString → Bool) (root : Data) (answer : Result Plan PlanFault) → AreApartByClass root → IsJudged refuses root answer → IfOk answer IsPlan
 judged_accepted refuses root (Ok plan) apart judged =
     let of : IsPlanOf refuses root plan = judged in
     let whole = global_of root in
@@ -176,6 +176,6 @@ judged_accepted refuses root (Ok plan) apart judged =
 judged_accepted refuses root (Err fault) apart judged = tt
 
 -- so may the plan that is read
-pub read_accepted : (refuses : Word → Bool) (root : Data) (answer : Result ReadPlan PlanFault) → AreApartByClass root → IsJudged refuses root (plan_in answer) → IfOk answer (λ (read : ReadPlan). IsPlan read.plan)
+pub read_accepted : (refuses : ByteString → Bool) (root : Data) (answer : Result ReadPlan PlanFault) → AreApartByClass root → IsJudged refuses root (plan_in answer) → IfOk answer (λ (read : ReadPlan). IsPlan read.plan)
 read_accepted refuses root (Ok read) apart judged = judged_accepted refuses root (Ok read.plan) apart judged
 read_accepted refuses root (Err fault) apart judged = tt

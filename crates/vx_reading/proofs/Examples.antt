@@ -1,7 +1,7 @@
 -- Closed texts, and what the definitions say of them.
 use Rattle.std.proofs.Common.{◌≡◌, ℕ, pos, Bool, true, false, List, [], ◌∷◌, ◌++◌, Some, None, map, codes, refl}
 use Rattle.vx_value.specs.declared.variable.Variable.{Variable}
-use Rattle.vx_value.specs.Texts.{Word}
+use Rattle.vx_value.specs.Texts.{ByteString}
 use Rattle.toml.proofs.OnLiterals.{toml_on_literals}
 use Rattle.toml.specs.Data.{Data, string, integer, boolean, array, table, item, no_items, Members, member, no_members}
 use Rattle.toml.specs.Parse.{parse_document}
@@ -19,8 +19,8 @@ use Rattle.vx_plan.specs.declared.settings.Settings.{Settings}
 use Rattle.vx_plan.specs.declared.settings.Settings.TheVariants.{FileIn, DemoLogs, Reduce, FileOut, Blackhole}
 use Rattle.vx_plan.specs.declared.sink_settings.SinkSettings.{SinkSettings}
 use Rattle.vx_plan.specs.declared.when_full.WhenFull.TheVariants.{Block, Overflow}
-use Rattle.vx_reading.specs.Findings.{findings, found, whole, precedes}
-use Rattle.vx_reading.specs.declared.finding.Finding.{Finding}
+use Rattle.vx_reading.specs.Diagnostics.{diagnostics, found, global_owner, precedes}
+use Rattle.vx_reading.specs.declared.diagnostic.Diagnostic.{Diagnostic}
 use Rattle.vx_reading.specs.declared.trouble.Trouble.{Trouble}
 use Rattle.vx_reading.specs.declared.trouble.Trouble.TheVariants.{UnknownKind, UnknownOption, MissingOption, BadValue, TooMany}
 use Rattle.vx_reading.specs.Plans.{plan_of}
@@ -48,7 +48,7 @@ pub first_whole : (environment : List Variable) → first_lacking environment fi
 unfolding pieces_after piece_of form_of bare braced with_default behind lacks lacking
 first_whole environment = refl
 
-pub first_faultless : findings (table first_members) ≡ []
+pub first_faultless : diagnostics (table first_members) ≡ []
 first_faultless = refl
 
 pub first_planned : plan_of (table first_members) ≡ first_plan
@@ -60,13 +60,13 @@ unfolding pieces_after piece_of form_of bare braced with_default behind lacks la
 missing_place = refl
 
 -- a sink of a type that there isn't, with an option that there isn't
-unknown_kind : findings (table (member (codes "sinks") (table (member (codes "out")
+unknown_kind : diagnostics (table (member (codes "sinks") (table (member (codes "out")
     (table (member (codes "type") (string (codes "kafka")) (member (codes "x") (string []) no_members))) no_members)) no_members))
     ≡ found (record { section = 3; name = codes "out" }) (codes "sinks.out.type") UnknownKind ∷ []
 unknown_kind = refl
 
 -- a missing option and an unknown one, each with its path
-two_faults : findings (table (member (codes "sinks") (table (member (codes "out")
+two_faults : diagnostics (table (member (codes "sinks") (table (member (codes "out")
     (table (member (codes "encoding") (table (member (codes "x") (string []) no_members))
     (member (codes "type") (string (codes "console")) no_members))) no_members)) no_members))
     ≡ found (record { section = 3; name = codes "out" }) (codes "sinks.out.encoding.x") UnknownOption
@@ -78,7 +78,7 @@ dash_first : precedes (found (record { section = 3; name = codes "out" }) (codes
     (found (record { section = 3; name = codes "out" }) (codes "sinks.out.encoding.x") UnknownOption) ≡ true
 dash_first = refl
 
--- the options of the whole come first, then sources, transforms, sinks; the kind counts before all
+-- the global options come first, then sources, transforms, sinks; the kind counts before all
 whole_first : precedes (found (record { section = 0; name = [] }) (codes "z") UnknownOption)
     (found (record { section = 1; name = codes "a" }) (codes "sources.a.b") UnknownOption) ≡ true
 whole_first = refl
@@ -87,7 +87,7 @@ kind_first : precedes (found (record { section = 3; name = codes "z" }) (codes "
     (found (record { section = 0; name = [] }) (codes "a") UnknownOption) ≡ true
 kind_first = refl
 
--- a document that says something of acknowledgements, for the whole and at its one sink
+-- a document that says something of acknowledgements, globally and at its one sink
 abbrev saying : Data → Data → Data
 saying all one =
     table (member (codes "acknowledgements") all
@@ -97,7 +97,7 @@ saying all one =
     (member (codes "type") (string (codes "console")) no_members)))) no_members)) no_members))
 
 -- a table with one option
-abbrev one_option : Word → Data → Data
+abbrev one_option : ByteString → Data → Data
 one_option name value = table (member name value no_members)
 
 -- the spelling in a table of its own
@@ -109,41 +109,41 @@ spelled_as_table = refl
 -- a document without faults: whether sinks acknowledge that don't say otherwise, and whether each sink does
 abbrev Acknowledges : Data → Bool → List Bool → Type 0
 Acknowledges root all each =
-    (findings root ≡ []) × ((plan_of root).global.acknowledgements ≡ all) × (map acknowledges (plan_of root).components ≡ each)
+    (diagnostics root ≡ []) × ((plan_of root).global.acknowledgements ≡ all) × (map acknowledges (plan_of root).components ≡ each)
 
--- a sink says no where the whole says yes, and the other way round, in either spelling
+-- a sink says no where the global option says yes, and the other way round, in either spelling
 sink_says_no : Acknowledges (saying (boolean true) (boolean false)) true (false ∷ [])
 sink_says_no = (refl, refl, refl)
 
 sink_says_yes : Acknowledges (saying (one_option (codes "enabled") (boolean false)) (one_option (codes "enabled") (boolean true))) false (true ∷ [])
 sink_says_yes = (refl, refl, refl)
 
--- a sink that doesn't say goes by the whole
+-- a sink that doesn't say goes by the global option
 sink_says_nothing : Acknowledges (saying (boolean true) (table no_members)) true (true ∷ [])
 sink_says_nothing = (refl, refl, refl)
 
--- where the whole doesn't say either, it doesn't acknowledge
+-- where no global option says it either, it doesn't acknowledge
 nothing_is_said : Acknowledges (saying (table no_members) (table no_members)) false (false ∷ [])
 nothing_is_said = (refl, refl, refl)
 
--- the faults of two values, for the whole and at the sink, whose paths end alike
-abbrev both_found : Word → Trouble → List Finding
+-- the faults of two values, globally and at the sink, whose paths end alike
+abbrev both_found : ByteString → Trouble → List Diagnostic
 both_found path trouble =
-    found whole path trouble ∷ found (record { section = 3; name = codes "out" }) (codes "sinks.out." ++ path) trouble ∷ []
+    found global_owner path trouble ∷ found (record { section = 3; name = codes "out" }) (codes "sinks.out." ++ path) trouble ∷ []
 
-no_truths : findings (saying (integer (pos 1)) (string (codes "yes"))) ≡ both_found (codes "acknowledgements") BadValue
+no_truths : diagnostics (saying (integer (pos 1)) (string (codes "yes"))) ≡ both_found (codes "acknowledgements") BadValue
 no_truths = refl
 
-unknown_names : findings (saying (one_option (codes "on") (boolean true)) (one_option (codes "on") (boolean true)))
+unknown_names : diagnostics (saying (one_option (codes "on") (boolean true)) (one_option (codes "on") (boolean true)))
     ≡ both_found (codes "acknowledgements.on") UnknownOption
 unknown_names = refl
 
-none_enabled : findings (saying (one_option (codes "enabled") (integer (pos 1))) (one_option (codes "enabled") (table no_members)))
+none_enabled : diagnostics (saying (one_option (codes "enabled") (integer (pos 1))) (one_option (codes "enabled") (table no_members)))
     ≡ both_found (codes "acknowledgements.enabled") BadValue
 none_enabled = refl
 
 -- a source has no such option
-source_says : findings (one_option (codes "sources") (one_option (codes "in")
+source_says : diagnostics (one_option (codes "sources") (one_option (codes "in")
     (table (member (codes "acknowledgements") (boolean true) (member (codes "type") (string (codes "stdin")) no_members)))))
     ≡ found (record { section = 1; name = codes "in" }) (codes "sources.in.acknowledgements") UnknownOption ∷ []
 source_says = refl
@@ -173,52 +173,52 @@ unfolding toml_on_literals
 spelled_as_list = refl
 
 -- they are read in order, and so is one that stands alone
-two_are_read : (findings (buffered (two_stages (passing_on 100) (stage_for 400))) ≡ [])
+two_are_read : (diagnostics (buffered (two_stages (passing_on 100) (stage_for 400))) ≡ [])
     × (map stages (plan_of (buffered (two_stages (passing_on 100) (stage_for 400)))).components
     ≡ (record { max_events = 100; when_full = Overflow } ∷ record { max_events = 400; when_full = Block } ∷ []) ∷ [])
 two_are_read = (refl, refl)
 
-one_is_read : (findings (buffered (stage_for 7)) ≡ [])
+one_is_read : (diagnostics (buffered (stage_for 7)) ≡ [])
     × (map stages (plan_of (buffered (stage_for 7))).components ≡ (record { max_events = 7; when_full = Block } ∷ []) ∷ [])
 one_is_read = (refl, refl)
 
 -- a fault at the buffer of the sink
-abbrev buffer_fault : Word → Trouble → Finding
+abbrev buffer_fault : ByteString → Trouble → Diagnostic
 buffer_fault path trouble = found (record { section = 3; name = codes "out" }) (codes "sinks.out.buffer" ++ path) trouble
 
 -- the last stage passes nothing on, and each before it does
-last_passes_on : findings (buffered (passing_on 100)) ≡ buffer_fault (codes ".when_full") BadValue ∷ []
+last_passes_on : diagnostics (buffered (passing_on 100)) ≡ buffer_fault (codes ".when_full") BadValue ∷ []
 last_passes_on = refl
 
-first_blocks : findings (buffered (two_stages (stage_for 100) (stage_for 400))) ≡ buffer_fault (codes ".when_full") BadValue ∷ []
+first_blocks : diagnostics (buffered (two_stages (stage_for 100) (stage_for 400))) ≡ buffer_fault (codes ".when_full") BadValue ∷ []
 first_blocks = refl
 
 -- a list without stages, a value that is none, and a list with one that is none
-no_stage : findings (buffered (array no_items)) ≡ buffer_fault [] BadValue ∷ []
+no_stage : diagnostics (buffered (array no_items)) ≡ buffer_fault [] BadValue ∷ []
 no_stage = refl
 
-no_buffer : findings (buffered (boolean true)) ≡ buffer_fault [] BadValue ∷ []
+no_buffer : diagnostics (buffered (boolean true)) ≡ buffer_fault [] BadValue ∷ []
 no_buffer = refl
 
-half_a_buffer : findings (buffered (two_stages (passing_on 100) (boolean true))) ≡ buffer_fault [] BadValue ∷ []
+half_a_buffer : diagnostics (buffered (two_stages (passing_on 100) (boolean true))) ≡ buffer_fault [] BadValue ∷ []
 half_a_buffer = refl
 
 -- nine stages
-nine_stages : findings (buffered (array
+nine_stages : diagnostics (buffered (array
     (item (passing_on 1) (item (passing_on 1) (item (passing_on 1) (item (passing_on 1)
     (item (passing_on 1) (item (passing_on 1) (item (passing_on 1) (item (passing_on 1) (item (stage_for 1) no_items)))))))))))
     ≡ buffer_fault [] (TooMany 9 8) ∷ []
 nine_stages = refl
 
 -- an unknown option of a stage, and a stage for no event
-unknown_in_stage : findings (buffered (one_option (codes "max_size") (integer (pos 1)))) ≡ buffer_fault (codes ".max_size") UnknownOption ∷ []
+unknown_in_stage : diagnostics (buffered (one_option (codes "max_size") (integer (pos 1)))) ≡ buffer_fault (codes ".max_size") UnknownOption ∷ []
 unknown_in_stage = refl
 
-no_room : findings (buffered (stage_for 0)) ≡ buffer_fault (codes ".max_events") BadValue ∷ []
+no_room : diagnostics (buffered (stage_for 0)) ≡ buffer_fault (codes ".max_events") BadValue ∷ []
 no_room = refl
 
 -- stages with too much room together
-much_room : findings (buffered (two_stages (passing_on 600000) (stage_for 600000))) ≡ found (record { section = 3; name = [] }) (codes "sinks") (TooMany 1200000 1000000) ∷ []
+much_room : diagnostics (buffered (two_stages (passing_on 600000) (stage_for 600000))) ≡ found (record { section = 3; name = [] }) (codes "sinks") (TooMany 1200000 1000000) ∷ []
 much_room = refl
 
 -- a document whose one source makes its lines of a value
@@ -237,7 +237,7 @@ abbrev settings_by : Component → Settings
 settings_by c = c.settings
 
 -- what it makes them of, where it says no more, and where it does
-little_is_said : (findings (generating two_texts demo_logs) ≡ [])
+little_is_said : (diagnostics (generating two_texts demo_logs) ≡ [])
     × (map settings_by (plan_of (generating two_texts demo_logs)).components
     ≡ DemoLogs (record { lines = codes "a" ∷ codes "b c" ∷ []; sequence = false; count = 9223372036854775807; seed = 0 }) 1 ∷ [])
 little_is_said = (refl, refl)
@@ -245,39 +245,39 @@ little_is_said = (refl, refl)
 abbrev more_said : Members
 more_said = member (codes "seed") (integer (pos 7)) (member (codes "sequence") (boolean true) demo_logs)
 
-more_is_said : (findings (generating two_texts more_said) ≡ [])
+more_is_said : (diagnostics (generating two_texts more_said) ≡ [])
     × (map settings_by (plan_of (generating two_texts more_said)).components
     ≡ DemoLogs (record { lines = codes "a" ∷ codes "b c" ∷ []; sequence = true; count = 9223372036854775807; seed = 7 }) 1 ∷ [])
 more_is_said = (refl, refl)
 
 -- a fault at the source
-abbrev source_fault : Word → Trouble → Finding
+abbrev source_fault : ByteString → Trouble → Diagnostic
 source_fault name trouble = found (record { section = 1; name = codes "in" }) (codes "sources.in." ++ name) trouble
 
 -- no text, a text with a line feed, a value that is no text, and one that is no list
-no_texts : findings (generating (array no_items) demo_logs) ≡ source_fault (codes "lines") BadValue ∷ []
+no_texts : diagnostics (generating (array no_items) demo_logs) ≡ source_fault (codes "lines") BadValue ∷ []
 no_texts = refl
 
-broken_text : findings (generating (array (item (string (codes "a")) (item (string (codes "b\nc")) no_items))) demo_logs)
+broken_text : diagnostics (generating (array (item (string (codes "a")) (item (string (codes "b\nc")) no_items))) demo_logs)
     ≡ source_fault (codes "lines") BadValue ∷ []
 broken_text = refl
 
-half_texts : findings (generating (array (item (string (codes "a")) (item (boolean true) no_items))) demo_logs) ≡ source_fault (codes "lines") BadValue ∷ []
+half_texts : diagnostics (generating (array (item (string (codes "a")) (item (boolean true) no_items))) demo_logs) ≡ source_fault (codes "lines") BadValue ∷ []
 half_texts = refl
 
-one_text : findings (generating (string (codes "a")) demo_logs) ≡ source_fault (codes "lines") BadValue ∷ []
+one_text : diagnostics (generating (string (codes "a")) demo_logs) ≡ source_fault (codes "lines") BadValue ∷ []
 one_text = refl
 
 -- a source that makes its lines has to say of what, and rests for a day at the most
-of_nothing : findings (one_option (codes "sources") (one_option (codes "in") (table demo_logs)))
+of_nothing : diagnostics (one_option (codes "sources") (one_option (codes "in") (table demo_logs)))
     ≡ source_fault (codes "format") MissingOption ∷ source_fault (codes "lines") MissingOption ∷ []
 of_nothing = refl
 
-resting : findings (generating two_texts (member (codes "interval") (integer (pos 86401)) demo_logs)) ≡ source_fault (codes "interval") BadValue ∷ []
+resting : diagnostics (generating two_texts (member (codes "interval") (integer (pos 86401)) demo_logs)) ≡ source_fault (codes "interval") BadValue ∷ []
 resting = refl
 
 -- it reads no component
-reading : findings (generating two_texts (member (codes "inputs") (array no_items) demo_logs)) ≡ source_fault (codes "inputs") UnknownOption ∷ []
+reading : diagnostics (generating two_texts (member (codes "inputs") (array no_items) demo_logs)) ≡ source_fault (codes "inputs") UnknownOption ∷ []
 reading = refl
 
 -- what a sink has that says nothing of it
@@ -293,25 +293,25 @@ sink_defaults = record {
 }
 
 -- a document whose one sink writes nothing
-abbrev swallowing : Data → Data
-swallowing seconds =
+abbrev blackhole : Data → Data
+blackhole seconds =
     one_option (codes "sinks") (one_option (codes "out") (table
     (member (codes "print_interval_secs") seconds (member (codes "type") (string (codes "blackhole")) no_members))))
 
 -- what it may say, the most that it may, and one more
-seconds_are_said : (findings (swallowing (integer (pos 9007199254740992))) ≡ [])
-    × (map settings_by (plan_of (swallowing (integer (pos 9007199254740992)))).components ≡ Blackhole 9007199254740992 sink_defaults ∷ [])
+seconds_are_said : (diagnostics (blackhole (integer (pos 9007199254740992))) ≡ [])
+    × (map settings_by (plan_of (blackhole (integer (pos 9007199254740992)))).components ≡ Blackhole 9007199254740992 sink_defaults ∷ [])
 seconds_are_said = (refl, refl)
 
-many_seconds : findings (swallowing (integer (pos 9007199254740993)))
+many_seconds : diagnostics (blackhole (integer (pos 9007199254740993)))
     ≡ found (record { section = 3; name = codes "out" }) (codes "sinks.out.print_interval_secs") BadValue ∷ []
 many_seconds = refl
 
 -- it has no target
-swallowing_to : findings (one_option (codes "sinks") (one_option (codes "out") (table
+blackhole_to : diagnostics (one_option (codes "sinks") (one_option (codes "out") (table
     (member (codes "target") (string (codes "stdout")) (member (codes "type") (string (codes "blackhole")) no_members)))))
     ≡ found (record { section = 3; name = codes "out" }) (codes "sinks.out.target") UnknownOption ∷ []
-swallowing_to = refl
+blackhole_to = refl
 
 -- a document whose one source reads a file
 abbrev reading_file : Data → Members → Data
@@ -325,50 +325,50 @@ abbrev one_file : Data
 one_file = array (item (string (codes "app.log")) no_items)
 
 -- what it is where it says no more, and where it does
-file_is_read : (findings (reading_file one_file file_type) ≡ [])
+file_is_read : (diagnostics (reading_file one_file file_type) ≡ [])
     × (map settings_by (plan_of (reading_file one_file file_type)).components ≡ FileIn 102400 (codes "app.log") Beginning decoding.Bytes ∷ [])
 file_is_read = (refl, refl)
 
 abbrev more_of_file : Members
 more_of_file = member (codes "max_line_bytes") (integer (pos 16777216)) (member (codes "read_from") (string (codes "beginning")) file_type)
 
-more_is_read : (findings (reading_file one_file more_of_file) ≡ [])
+more_is_read : (diagnostics (reading_file one_file more_of_file) ≡ [])
     × (map settings_by (plan_of (reading_file one_file more_of_file)).components ≡ FileIn 16777216 (codes "app.log") Beginning decoding.Bytes ∷ [])
 more_is_read = (refl, refl)
 
 -- no file, two files, a pattern, a file that stands in no list, and none at all
-no_file : findings (reading_file (array no_items) file_type) ≡ source_fault (codes "include") BadValue ∷ []
+no_file : diagnostics (reading_file (array no_items) file_type) ≡ source_fault (codes "include") BadValue ∷ []
 no_file = refl
 
-two_files : findings (reading_file (array (item (string (codes "a")) (item (string (codes "b")) no_items))) file_type)
+two_files : diagnostics (reading_file (array (item (string (codes "a")) (item (string (codes "b")) no_items))) file_type)
     ≡ source_fault (codes "include") BadValue ∷ []
 two_files = refl
 
-star_in_file : findings (reading_file (array (item (string (codes "*.log")) no_items)) file_type) ≡ source_fault (codes "include") BadValue ∷ []
+star_in_file : diagnostics (reading_file (array (item (string (codes "*.log")) no_items)) file_type) ≡ source_fault (codes "include") BadValue ∷ []
 star_in_file = refl
 
-mark_in_file : findings (reading_file (array (item (string (codes "a?.log")) no_items)) file_type) ≡ source_fault (codes "include") BadValue ∷ []
+mark_in_file : diagnostics (reading_file (array (item (string (codes "a?.log")) no_items)) file_type) ≡ source_fault (codes "include") BadValue ∷ []
 mark_in_file = refl
 
-bracket_in_file : findings (reading_file (array (item (string (codes "a[0].log")) no_items)) file_type) ≡ source_fault (codes "include") BadValue ∷ []
+bracket_in_file : diagnostics (reading_file (array (item (string (codes "a[0].log")) no_items)) file_type) ≡ source_fault (codes "include") BadValue ∷ []
 bracket_in_file = refl
 
-file_as_text : findings (reading_file (string (codes "app.log")) file_type) ≡ source_fault (codes "include") BadValue ∷ []
+file_as_text : diagnostics (reading_file (string (codes "app.log")) file_type) ≡ source_fault (codes "include") BadValue ∷ []
 file_as_text = refl
 
-file_is_lacking : findings (one_option (codes "sources") (one_option (codes "in") (table file_type))) ≡ source_fault (codes "include") MissingOption ∷ []
+file_is_lacking : diagnostics (one_option (codes "sources") (one_option (codes "in") (table file_type))) ≡ source_fault (codes "include") MissingOption ∷ []
 file_is_lacking = refl
 
 -- it is read from its beginning, and no line is longer than may be said
-read_from_end : findings (reading_file one_file (member (codes "read_from") (string (codes "end")) file_type)) ≡ source_fault (codes "read_from") BadValue ∷ []
+read_from_end : diagnostics (reading_file one_file (member (codes "read_from") (string (codes "end")) file_type)) ≡ source_fault (codes "read_from") BadValue ∷ []
 read_from_end = refl
 
-long_lines : findings (reading_file one_file (member (codes "max_line_bytes") (integer (pos 16777217)) file_type))
+long_lines : diagnostics (reading_file one_file (member (codes "max_line_bytes") (integer (pos 16777217)) file_type))
     ≡ source_fault (codes "max_line_bytes") BadValue ∷ []
 long_lines = refl
 
 -- a document whose one sink appends to a file, with an option before its path
-abbrev appending : Word → Data → Data → Data
+abbrev appending : ByteString → Data → Data → Data
 appending name value path =
     one_option (codes "sinks") (one_option (codes "f") (table
     (member name value
@@ -376,21 +376,21 @@ appending name value path =
     (member (codes "path") path file_type)))))
 
 -- it doesn't compress what it writes, whether it says so or not
-uncompressed : (findings (appending (codes "compression") (string (codes "none")) (string (codes "errors.txt"))) ≡ [])
+uncompressed : (diagnostics (appending (codes "compression") (string (codes "none")) (string (codes "errors.txt"))) ≡ [])
     × (map settings_by (plan_of (appending (codes "compression") (string (codes "none")) (string (codes "errors.txt")))).components
     ≡ FileOut (codes "errors.txt") compression.None codec.Text sink_defaults ∷ [])
 uncompressed = (refl, refl)
 
-compressed : findings (appending (codes "compression") (string (codes "gzip")) (string (codes "errors.txt")))
+compressed : diagnostics (appending (codes "compression") (string (codes "gzip")) (string (codes "errors.txt")))
     ≡ found (record { section = 3; name = codes "f" }) (codes "sinks.f.compression") BadValue ∷ []
 compressed = refl
 
 -- a path that is a template, and a sink that has none
-template_as_path : findings (appending (codes "compression") (string (codes "none")) (string (codes "{{ host }}.txt")))
+template_as_path : diagnostics (appending (codes "compression") (string (codes "none")) (string (codes "{{ host }}.txt")))
     ≡ found (record { section = 3; name = codes "f" }) (codes "sinks.f.path") BadValue ∷ []
 template_as_path = refl
 
-path_is_lacking : findings (one_option (codes "sinks") (one_option (codes "f") (table
+path_is_lacking : diagnostics (one_option (codes "sinks") (one_option (codes "f") (table
     (member (codes "encoding") (one_option (codes "codec") (string (codes "text"))) file_type))))
     ≡ found (record { section = 3; name = codes "f" }) (codes "sinks.f.path") MissingOption ∷ []
 path_is_lacking = refl
@@ -404,7 +404,7 @@ reduce_type = member (codes "type") (string (codes "reduce")) no_members
 
 -- what it is where it says no more, and where it does
 abbrev merging_by : Members → Settings → Type 0
-merging_by options settings = (findings (merging options) ≡ []) × (map settings_by (plan_of (merging options)).components ≡ settings ∷ [])
+merging_by options settings = (diagnostics (merging options) ≡ []) × (map settings_by (plan_of (merging options)).components ≡ settings ∷ [])
 
 bare_reduce : merging_by reduce_type (Reduce [] None None 30000 1000 [])
 bare_reduce = (refl, refl)
@@ -426,27 +426,27 @@ whole_reduce : merging_by more_of_reduce
 whole_reduce = (refl, refl)
 
 -- a fault at the transform
-abbrev transform_fault : Word → Finding
+abbrev transform_fault : ByteString → Diagnostic
 transform_fault name = found (record { section = 2; name = codes "t" }) (codes "transforms.t." ++ name) BadValue
 
 -- periods that are too short or too long, a path that is none, and the two conditions together
-no_period : findings (merging (member (codes "expire_after_ms") (integer (pos 0)) reduce_type)) ≡ transform_fault (codes "expire_after_ms") ∷ []
+no_period : diagnostics (merging (member (codes "expire_after_ms") (integer (pos 0)) reduce_type)) ≡ transform_fault (codes "expire_after_ms") ∷ []
 no_period = refl
 
-long_period : findings (merging (member (codes "flush_period_ms") (integer (pos 9007199254740993)) reduce_type)) ≡ transform_fault (codes "flush_period_ms") ∷ []
+long_period : diagnostics (merging (member (codes "flush_period_ms") (integer (pos 9007199254740993)) reduce_type)) ≡ transform_fault (codes "flush_period_ms") ∷ []
 long_period = refl
 
-no_path : findings (merging (member (codes "group_by") (array (item (string (codes "a..b")) no_items)) reduce_type)) ≡ transform_fault (codes "group_by") ∷ []
+no_path : diagnostics (merging (member (codes "group_by") (array (item (string (codes "a..b")) no_items)) reduce_type)) ≡ transform_fault (codes "group_by") ∷ []
 no_path = refl
 
-both_conditions : findings (merging (member (codes "ends_when") (string (codes "exists(.a)")) (member (codes "starts_when") (string (codes "exists(.b)")) reduce_type)))
+both_conditions : diagnostics (merging (member (codes "ends_when") (string (codes "exists(.a)")) (member (codes "starts_when") (string (codes "exists(.b)")) reduce_type)))
     ≡ transform_fault (codes "starts_when") ∷ []
 both_conditions = refl
 
 -- no strategy, and strategies that stand in no table
-no_strategy : findings (merging (member (codes "merge_strategies") (one_option (codes "a") (string (codes "append"))) reduce_type))
+no_strategy : diagnostics (merging (member (codes "merge_strategies") (one_option (codes "a") (string (codes "append"))) reduce_type))
     ≡ transform_fault (codes "merge_strategies.a") ∷ []
 no_strategy = refl
 
-strategies_as_text : findings (merging (member (codes "merge_strategies") (string (codes "sum")) reduce_type)) ≡ transform_fault (codes "merge_strategies") ∷ []
+strategies_as_text : diagnostics (merging (member (codes "merge_strategies") (string (codes "sum")) reduce_type)) ≡ transform_fault (codes "merge_strategies") ∷ []
 strategies_as_text = refl

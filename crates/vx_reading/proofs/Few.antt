@@ -4,15 +4,15 @@ use Rattle.std.specs.List.{flat_map}
 use Rattle.std.specs.Prelude.{if◌then◌else◌}
 use Rattle.std.proofs.lemmas.Bool.Decides.{nat_tests}
 use Rattle.vx_value.specs.declared.variable.Variable.{Variable}
-use Rattle.vx_value.specs.Texts.{Word}
+use Rattle.vx_value.specs.Texts.{ByteString}
 use Rattle.toml.specs.Data.{Data}
 use Rattle.vx_plan.specs.declared.component.Component.{Component}
 use Rattle.vx_plan.specs.declared.global.Global.{Global}
 use Rattle.vx_plan.specs.declared.plan.Plan.{Plan}
-use Rattle.vx_reading.specs.declared.finding.Finding.{Finding}
+use Rattle.vx_reading.specs.declared.diagnostic.Diagnostic.{Diagnostic}
 use Rattle.vx_reading.specs.declared.kind.Kind.{Kind}
 use Rattle.vx_reading.specs.Components.{Part, parts, kind_of}
-use Rattle.vx_reading.specs.Findings.{findings, global_findings, count_findings, most_parts}
+use Rattle.vx_reading.specs.Diagnostics.{diagnostics, global_diagnostics, count_diagnostics, most_parts}
 use Rattle.vx_reading.specs.Plans.{component, component_of, global_of}
 use Rattle.vx_reading.specs.Reading.{IsReading, IsPlanOf}
 
@@ -40,21 +40,21 @@ pub none_right : {X : Type 0} (xs ys : List X) → xs ++ ys ≡ [] → ys ≡ []
 none_right [] ys is = is
 none_right (x ∷ xs) ys is = cc
 
-uncounted : (b : Bool) (finding : Finding) → (if b then finding ∷ [] else []) ≡ [] → b ≡ false
-uncounted true finding is = cc
-uncounted false finding is = refl
+uncounted : (b : Bool) (diagnostic : Diagnostic) → (if b then diagnostic ∷ [] else []) ≡ [] → b ≡ false
+uncounted true diagnostic is = cc
+uncounted false diagnostic is = refl
 
 -- where nothing is found, there are few parts
-few_parts : (root : Data) → findings root ≡ [] → length (parts root) ≤ 256
+few_parts : (root : Data) → diagnostics root ≡ [] → length (parts root) ≤ 256
 few_parts root none =
-    let rest = none_right (global_findings root) _ none in
-    let here : nat_lt most_parts (length (parts root)) ≡ false = uncounted (nat_lt most_parts (length (parts root))) _ (none_left (count_findings root) _ rest) in
+    let rest = none_right (global_diagnostics root) _ none in
+    let here : nat_lt most_parts (length (parts root)) ≡ false = uncounted (nat_lt most_parts (length (parts root))) _ (none_left (count_diagnostics root) _ rest) in
     grind (arith, nat_tests)
 
-pub few_components : (environment : List Variable) (bytes : Word) (plan : Plan) → IsReading environment bytes (Ok plan) → length plan.components ≤ 256
+pub few_components : (environment : List Variable) (bytes : ByteString) (plan : Plan) → IsReading environment bytes (Ok plan) → length plan.components ≤ 256
 few_components environment bytes plan (refuses, inl read) =
     let of : IsPlanOf refuses read.1.root plan = read.1.rightly.judged in
     let global = global_of read.1.root in
-    let few : length (flat_map (component_of global) (parts read.1.root)) ≤ 256 = omega (arith, no_more global (parts read.1.root), few_parts read.1.root (none_left (findings read.1.root) _ of.faultless)) in
+    let few : length (flat_map (component_of global) (parts read.1.root)) ≤ 256 = omega (arith, no_more global (parts read.1.root), few_parts read.1.root (none_left (diagnostics read.1.root) _ of.faultless)) in
     subst (λ (p : Plan). length p.components ≤ 256) (sym of.same) few
 few_components environment bytes plan (refuses, inr none) = let e = none.1 in cc

@@ -3,7 +3,7 @@ use Rattle.std.proofs.Common.{◌≡◌, Bool, List, [], Ok, refl, sym, ◌∙�
 use Rattle.std.specs.Prelude.{◌++◌}
 use Rattle.std.specs.Str.{IsUtf8}
 use Rattle.std.proofs.lemmas.List.{append-nil}
-use Rattle.vx_value.specs.Texts.{Word}
+use Rattle.vx_value.specs.Texts.{ByteString}
 use Rattle.vx_value.specs.declared.variable.Variable.{Variable}
 use Rattle.toml.specs.Data.{table}
 use Rattle.toml.specs.Parse.{parse_document}
@@ -13,9 +13,9 @@ use Rattle.vx_plan.specs.declared.plan.Plan.{Plan}
 use Rattle.vx_plan.specs.First.{first_configuration, first_plan}
 use Rattle.vx_plan.specs.Graphs.{nodes_of}
 use Rattle.vx_plan.proofs.FirstPlan.{first_stands}
-use Rattle.vx_reading.specs.declared.finding.Finding.{Finding}
+use Rattle.vx_reading.specs.declared.diagnostic.Diagnostic.{Diagnostic}
 use Rattle.vx_reading.specs.Conditions.{RefusesRightly, all_conditions, refusals}
-use Rattle.vx_reading.specs.Findings.{findings}
+use Rattle.vx_reading.specs.Diagnostics.{diagnostics}
 use Rattle.vx_reading.specs.Plans.{plan_of}
 use Rattle.vx_reading.specs.Reading.{IsReadingBy}
 use Rattle.vx_reading.proofs.Examples.{first_members, first_parsed, first_replaced, first_whole, first_faultless, first_planned}
@@ -29,10 +29,10 @@ first_utf8 = (first_configuration, (refl, refl))
 unconditional : all_conditions (plan_of (table first_members)).components ≡ []
 unconditional = ap (λ (plan : Plan). all_conditions plan.components) first_planned
 
-unrefused : (refuses : Word → Bool) → refusals refuses (plan_of (table first_members)).components ≡ []
+unrefused : (refuses : ByteString → Bool) → refusals refuses (plan_of (table first_members)).components ≡ []
 unrefused refuses = ap (λ (plan : Plan). refusals refuses plan.components) first_planned
 
-pub first_is_read : (refuses : Word → Bool) (environment : List Variable) → IsReadingBy refuses environment first_configuration (Ok first_plan)
+pub first_is_read : (refuses : ByteString → Bool) (environment : List Variable) → IsReadingBy refuses environment first_configuration (Ok first_plan)
 first_is_read refuses environment = inl (
   first_utf8,
   record {
@@ -44,9 +44,9 @@ first_is_read refuses environment = inl (
       same = refl;
     };
     rightly = record {
-      right = λ some. subst (λ (texts : List Word). RefusesRightly refuses texts) (sym unconditional) (record { refused = tt; taken = tt });
+      right = λ some. subst (λ (texts : List ByteString). RefusesRightly refuses texts) (sym unconditional) (record { refused = tt; taken = tt });
       judged = record {
-        faultless = ap (λ (more : List Finding). findings (table first_members) ++ more) (unrefused refuses) ∙ append-nil (findings (table first_members)) ∙ first_faultless;
+        faultless = ap (λ (more : List Diagnostic). diagnostics (table first_members) ++ more) (unrefused refuses) ∙ append-nil (diagnostics (table first_members)) ∙ first_faultless;
         same = sym first_planned;
         accepted = subst (λ (plan : Plan). IsAccepted (in_order (nodes_of plan))) (sym first_planned) first_stands.accepted;
       };

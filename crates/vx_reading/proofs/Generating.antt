@@ -5,14 +5,14 @@ use Rattle.std.specs.Cmp.Lexicographic.{slice_cmp}
 use Rattle.std.specs.List.{AllByRecursion, list_all, flat_map}
 use Rattle.std.specs.Ordering.{match_ordering}
 use Rattle.toml.specs.Data.{Data, string, integer, float, boolean, datetime, array, table, Items, Members, no_members, member, as_array, as_str, get, get_member}
-use Rattle.vx_value.specs.Texts.{Word, same_text, is_empty}
-use Rattle.vx_value.proofs.Order.{told_same, same_text-true}
+use Rattle.vx_value.specs.Texts.{ByteString, same_text, is_empty}
+use Rattle.vx_value.proofs.Order.{observed_same, same_text-true}
 use Rattle.vx_plan.proofs.Tests.{and_made, and_both}
-use Rattle.vx_reading.specs.declared.finding.Finding.{Finding}
+use Rattle.vx_reading.specs.declared.diagnostic.Diagnostic.{Diagnostic}
 use Rattle.vx_reading.specs.declared.kind.Kind.TheVariants.{DemoLogs}
 use Rattle.vx_reading.specs.declared.trouble.Trouble.TheVariants.{BadValue}
 use Rattle.vx_reading.specs.Components.{Part, parts, kind_of}
-use Rattle.vx_reading.specs.Findings.{Owner, findings, kind_findings, own_findings, later_findings, option_findings, given_findings, row_findings, lacking, crowded, found_if}
+use Rattle.vx_reading.specs.Diagnostics.{Owner, diagnostics, kind_diagnostics, own_diagnostics, later_diagnostics, option_diagnostics, given_diagnostics, row_diagnostics, lacking, crowded, found_if}
 use Rattle.vx_reading.specs.Judging.{pairs_of, pairs_in, items_in, Given, given, alone, is_given, is_line, are_lines, is_lines}
 use Rattle.vx_reading.specs.Made.{is_unbroken}
 use Rattle.vx_reading.specs.Options.{rows_of, type_row, format_row, lines_row}
@@ -21,7 +21,7 @@ use Rattle.vx_reading.proofs.Faultless.{each_faultless}
 use Rattle.vx_reading.proofs.Few.{none_left, none_right}
 
 -- WHAT STANDS UNDER A NAME
-fitting : (owner : Owner) (path : Word) (b : Bool) → found_if owner path (if b then None else Some BadValue) ≡ [] → b ≡ true
+fitting : (owner : Owner) (path : ByteString) (b : Bool) → found_if owner path (if b then None else Some BadValue) ≡ [] → b ≡ true
 fitting owner path true none = refl
 fitting owner path false none = cc
 
@@ -29,20 +29,20 @@ fitting owner path false none = cc
 abbrev are_there : Option Data → Bool
 are_there o = elim o [ None ↦ false | Some value ↦ is_lines value ]
 
-module _ (owner : Owner) (lead : Word) where
+module _ (owner : Owner) (lead : ByteString) where
   -- one under the name of the lines is such a list
-  here_fits : (value : Data) (name : Word) (later : List Given) → codes "lines" ≡ name →
-      given_findings owner lead (rows_of DemoLogs) (alone (record { name = name; value = value }) ∷ later) ≡ [] → is_lines value ≡ true
+  here_fits : (value : Data) (name : ByteString) (later : List Given) → codes "lines" ≡ name →
+      given_diagnostics owner lead (rows_of DemoLogs) (alone (record { name = name; value = value }) ∷ later) ≡ [] → is_lines value ≡ true
   here_fits value name later same none =
       let first =
-      subst (λ (n : Word). given_findings owner lead (rows_of DemoLogs) (alone (record { name = n; value = value }) ∷ later) ≡ []) (sym same) none in
-      fitting owner (lead ++ codes "lines") (is_lines value) (none_left _ (given_findings owner lead (rows_of DemoLogs) later) first)
+      subst (λ (n : ByteString). given_diagnostics owner lead (rows_of DemoLogs) (alone (record { name = n; value = value }) ∷ later) ≡ []) (sym same) none in
+      fitting owner (lead ++ codes "lines") (is_lines value) (none_left _ (given_diagnostics owner lead (rows_of DemoLogs) later) first)
 
-  members_fit : (ms : Members) → given_findings owner lead (rows_of DemoLogs) (given (rows_of DemoLogs) (pairs_of ms)) ≡ [] →
+  members_fit : (ms : Members) → given_diagnostics owner lead (rows_of DemoLogs) (given (rows_of DemoLogs) (pairs_of ms)) ≡ [] →
       is_given lines_row.place (given (rows_of DemoLogs) (pairs_of ms)) ≡ true → are_there (get_member (codes "lines") ms) ≡ true
   members_fit no_members none there = cc
   members_fit (member name value rest) none there =
-      go (slice_cmp nat_cmp (codes "lines") name) refl (members_fit rest (none_right _ (given_findings owner lead (rows_of DemoLogs) later) none))
+      go (slice_cmp nat_cmp (codes "lines") name) refl (members_fit rest (none_right _ (given_diagnostics owner lead (rows_of DemoLogs) later) none))
     where
       later : List Given
       later = given (rows_of DemoLogs) (pairs_of rest)
@@ -52,11 +52,11 @@ module _ (owner : Owner) (lead : Word) where
 
       go : (o : Ordering) → slice_cmp nat_cmp (codes "lines") name ≡ o → (is_given lines_row.place later ≡ true → are_there (get_member (codes "lines") rest) ≡ true) →
           are_there (match_ordering o (get_member (codes "lines") rest) (Some value) (get_member (codes "lines") rest)) ≡ true
-      go Less is so = so (behind (sym (told_same (codes "lines") name Less (sym is))))
-      go Greater is so = so (behind (sym (told_same (codes "lines") name Greater (sym is))))
-      go Equal is so = here_fits value name later (same_text-true (codes "lines") name (sym (told_same (codes "lines") name Equal (sym is)))) none
+      go Less is so = so (behind (sym (observed_same (codes "lines") name Less (sym is))))
+      go Greater is so = so (behind (sym (observed_same (codes "lines") name Greater (sym is))))
+      go Equal is so = here_fits value name later (same_text-true (codes "lines") name (sym (observed_same (codes "lines") name Equal (sym is)))) none
 
-  value_fits : (value : Data) → given_findings owner lead (rows_of DemoLogs) (given (rows_of DemoLogs) (pairs_in value)) ≡ [] →
+  value_fits : (value : Data) → given_diagnostics owner lead (rows_of DemoLogs) (given (rows_of DemoLogs) (pairs_in value)) ≡ [] →
       is_given lines_row.place (given (rows_of DemoLogs) (pairs_in value)) ≡ true → are_there (get (codes "lines") value) ≡ true
   value_fits (table ms) none there = members_fit ms none there
   value_fits (string s) none there = cc
@@ -71,7 +71,7 @@ each_unbroken : (values : List Data) → list_all is_line values ≡ true → li
 each_unbroken [] all = refl
 each_unbroken (value ∷ rest) all = go (as_str value) (and_both (is_line value) (list_all is_line rest) all).0 (each_unbroken rest (and_both (is_line value) (list_all is_line rest) all).1)
   where
-    go : (o : Option Word) → (elim o [ None ↦ false | Some text ↦ is_unbroken text ]) ≡ true → list_all is_unbroken (flat_map text_of rest) ≡ true →
+    go : (o : Option ByteString) → (elim o [ None ↦ false | Some text ↦ is_unbroken text ]) ≡ true → list_all is_unbroken (flat_map text_of rest) ≡ true →
         list_all is_unbroken ((elim o [ None ↦ [] | Some text ↦ text ∷ [] ]) ++ flat_map text_of rest) ≡ true
     go None is later = cc
     go (Some text) is later = and_made (is_unbroken text) (list_all is_unbroken (flat_map text_of rest)) is later
@@ -80,13 +80,13 @@ some_text : (values : List Data) → not (is_empty values) ≡ true → list_all
 some_text [] some all = cc
 some_text (value ∷ rest) some all = go (as_str value) (and_both (is_line value) (list_all is_line rest) all).0
   where
-    go : (o : Option Word) → (elim o [ None ↦ false | Some text ↦ is_unbroken text ]) ≡ true →
+    go : (o : Option ByteString) → (elim o [ None ↦ false | Some text ↦ is_unbroken text ]) ≡ true →
         not (is_empty ((elim o [ None ↦ [] | Some text ↦ text ∷ [] ]) ++ flat_map text_of rest)) ≡ true
     go None is = cc
     go (Some text) is = refl
 
 -- whether there are some texts, and none has a line feed
-abbrev are_texts : List Word → Bool
+abbrev are_texts : List ByteString → Bool
 are_texts texts = not (is_empty texts) && list_all is_unbroken texts
 
 texts_made : (o : Option Items) → (elim o [ None ↦ false | Some items ↦ are_lines (items_in items) ]) ≡ true → are_texts (texts_of o) ≡ true
@@ -100,17 +100,17 @@ there_made None there = cc
 there_made (Some value) there = texts_made (as_array value) there
 
 -- WHERE NO FAULT IS FOUND
-present : (b : Bool) (finding : Finding) → (if not b then finding ∷ [] else []) ≡ [] → b ≡ true
-present true finding none = refl
-present false finding none = cc
+present : (b : Bool) (diagnostic : Diagnostic) → (if not b then diagnostic ∷ [] else []) ≡ [] → b ≡ true
+present true diagnostic none = refl
+present false diagnostic none = cc
 
 -- the lines are given
-lines_given : (owner : Owner) (lead : Word) (all : List Given) → option_findings owner lead (rows_of DemoLogs) all ≡ [] → is_given lines_row.place all ≡ true
+lines_given : (owner : Owner) (lead : ByteString) (all : List Given) → option_diagnostics owner lead (rows_of DemoLogs) all ≡ [] → is_given lines_row.place all ≡ true
 lines_given owner lead all none =
-    let rows = none_right (given_findings owner lead (rows_of DemoLogs) all) _ none in
-    let behind_type = none_right (row_findings owner lead all type_row) _ rows in
-    let behind_format = none_right (row_findings owner lead all format_row) _ behind_type in
-    let of_lines = none_left (row_findings owner lead all lines_row) _ behind_format in
+    let rows = none_right (given_diagnostics owner lead (rows_of DemoLogs) all) _ none in
+    let behind_type = none_right (row_diagnostics owner lead all type_row) _ rows in
+    let behind_format = none_right (row_diagnostics owner lead all format_row) _ behind_type in
+    let of_lines = none_left (row_diagnostics owner lead all lines_row) _ behind_format in
     let there = none_left (lacking owner lead all lines_row) (crowded owner lead all lines_row) of_lines in
     present (is_given lines_row.place all) _ there
 
@@ -118,13 +118,13 @@ lines_given owner lead all none =
 abbrev pub has_lines : Part → Bool
 has_lines part = are_texts (texts_at (codes "lines") part.value)
 
-of_kind : (first : Option Word) (part : Part) → kind_findings first part DemoLogs ≡ [] → has_lines part ≡ true
+of_kind : (first : Option ByteString) (part : Part) → kind_diagnostics first part DemoLogs ≡ [] → has_lines part ≡ true
 of_kind first part none =
     let all = given (rows_of DemoLogs) (pairs_in part.value) in
-    let options = none_left (option_findings _ _ (rows_of DemoLogs) all) _ (none_left (own_findings part DemoLogs all) _ (none_right (later_findings first part) _ none)) in
-    let fit = value_fits _ _ part.value (none_left (given_findings _ _ (rows_of DemoLogs) all) _ options) (lines_given _ _ all options) in
+    let options = none_left (option_diagnostics _ _ (rows_of DemoLogs) all) _ (none_left (own_diagnostics part DemoLogs all) _ (none_right (later_diagnostics first part) _ none)) in
+    let fit = value_fits _ _ part.value (none_left (given_diagnostics _ _ (rows_of DemoLogs) all) _ options) (lines_given _ _ all options) in
     there_made (get (codes "lines") part.value) fit
 
 -- each source of a document without faults that makes its lines has some texts for them
-pub lines_there : (root : Data) → findings root ≡ [] → AllByRecursion (λ (part : Part). kind_of part ≡ Some DemoLogs → has_lines part ≡ true) (parts root)
+pub lines_there : (root : Data) → diagnostics root ≡ [] → AllByRecursion (λ (part : Part). kind_of part ≡ Some DemoLogs → has_lines part ≡ true) (parts root)
 lines_there = each_faultless DemoLogs (λ (part : Part). has_lines part ≡ true) of_kind

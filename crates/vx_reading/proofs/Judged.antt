@@ -1,7 +1,7 @@
 -- What is answered of a document whose conditions were read.
 use Rattle.std.proofs.Common.{◌≡◌, Bool, false, List, [], ◌++◌, map, Result, Ok, Err, IsErrAnd, refl, sym, ◌∙◌, ap, subst}
 use Rattle.std.specs.List.{flat_map}
-use Rattle.vx_value.specs.Texts.{Word}
+use Rattle.vx_value.specs.Texts.{ByteString}
 use Rattle.toml.specs.Data.{Data}
 use Rattle.vx_graph.specs.declared.graph_fault.GraphFault.{GraphFault}
 use Rattle.vx_graph.specs.declared.graph_fault.GraphFault.TheVariants as graph
@@ -10,15 +10,15 @@ use Rattle.vx_graph.specs.Order.{in_order}
 use Rattle.vx_plan.specs.declared.component.Component.{Component}
 use Rattle.vx_plan.specs.declared.global.Global.{Global}
 use Rattle.vx_plan.specs.declared.plan.Plan.{Plan}
-use Rattle.vx_reading.specs.declared.finding.Finding.{Finding}
+use Rattle.vx_reading.specs.declared.diagnostic.Diagnostic.{Diagnostic}
 use Rattle.vx_reading.specs.declared.plan_fault.PlanFault.{PlanFault}
 use Rattle.vx_reading.specs.declared.plan_fault.PlanFault.TheVariants as fault
 use Rattle.vx_reading.specs.declared.reading.ReadPlan.{ReadPlan}
 use Rattle.vx_reading.specs.declared.trouble.Trouble.{Trouble}
 use Rattle.vx_reading.specs.declared.trouble.Trouble.TheVariants as trouble
 use Rattle.vx_reading.specs.Answers.{plan_in}
-use Rattle.vx_reading.specs.Conditions.{conditions_by, all_conditions, is_one, RefusesRightly, refusals, all_findings}
-use Rattle.vx_reading.specs.Findings.{findings, HasFault, fault_at}
+use Rattle.vx_reading.specs.Conditions.{conditions_by, all_conditions, is_one, RefusesRightly, refusals, all_diagnostics}
+use Rattle.vx_reading.specs.Diagnostics.{diagnostics, HasFault, fault_at}
 use Rattle.vx_reading.specs.Components.{Part, parts}
 use Rattle.vx_reading.specs.Plans.{component_of, global_of, plan_of, nodes_of}
 use Rattle.vx_reading.specs.Reading.{IsJudged, IsRightlyJudged}
@@ -27,36 +27,36 @@ use Rattle.vx_reading.proofs.Few.{none_right}
 use Rattle.vx_reading.proofs.Refusing.{right, conditions_are}
 
 -- want of memory may be answered of each
-pub short_judged : (root : Data) → (refuses : Word → Bool) × IsRightlyJudged refuses root (Err fault.WantOfMemory)
+pub short_judged : (root : Data) → (refuses : ByteString → Bool) × IsRightlyJudged refuses root (Err fault.WantOfMemory)
 short_judged root = (λ text. false, record { right = λ some. absurd (some refl); judged = tt })
 
 pub memory_judged : (root : Data) (answer : Result ReadPlan PlanFault) → IsErrAnd answer (λ why. why ≡ fault.WantOfMemory) →
-    (refuses : Word → Bool) × IsRightlyJudged refuses root (plan_in answer)
+    (refuses : ByteString → Bool) × IsRightlyJudged refuses root (plan_in answer)
 memory_judged root (Ok read) is = absurd is
 memory_judged root (Err why) is =
-    subst (λ (f : PlanFault). (refuses : Word → Bool) × IsRightlyJudged refuses root (Err f)) (sym is) (short_judged root)
+    subst (λ (f : PlanFault). (refuses : ByteString → Bool) × IsRightlyJudged refuses root (Err f)) (sym is) (short_judged root)
 
 -- the first of some faults is answered
-fault_judged : (refuses : Word → Bool) (root : Data) (why : PlanFault) → HasFault (all_findings refuses root) why → IsJudged refuses root (Err why)
-fault_judged refuses root (fault.MissingVariable name at) has = absurd (never has.finding.path has.finding.trouble has.same)
+fault_judged : (refuses : ByteString → Bool) (root : Data) (why : PlanFault) → HasFault (all_diagnostics refuses root) why → IsJudged refuses root (Err why)
+fault_judged refuses root (fault.MissingVariable name at) has = absurd (never has.diagnostic.path has.diagnostic.trouble has.same)
   where
-    never : (path : Word) (t : Trouble) → fault.MissingVariable name at ≡ fault_at path t → ⊥
+    never : (path : ByteString) (t : Trouble) → fault.MissingVariable name at ≡ fault_at path t → ⊥
     never path trouble.UnknownKind is = cc
     never path trouble.UnknownOption is = cc
     never path trouble.MissingOption is = cc
     never path trouble.BadValue is = cc
     never path (trouble.TooMany count most) is = cc
-fault_judged refuses root fault.NotToml has = absurd (never has.finding.path has.finding.trouble has.same)
+fault_judged refuses root fault.NotToml has = absurd (never has.diagnostic.path has.diagnostic.trouble has.same)
   where
-    never : (path : Word) (t : Trouble) → fault.NotToml ≡ fault_at path t → ⊥
+    never : (path : ByteString) (t : Trouble) → fault.NotToml ≡ fault_at path t → ⊥
     never path trouble.UnknownKind is = cc
     never path trouble.UnknownOption is = cc
     never path trouble.MissingOption is = cc
     never path trouble.BadValue is = cc
     never path (trouble.TooMany count most) is = cc
-fault_judged refuses root (fault.Graph why) has = absurd (never has.finding.path has.finding.trouble has.same)
+fault_judged refuses root (fault.Graph why) has = absurd (never has.diagnostic.path has.diagnostic.trouble has.same)
   where
-    never : (path : Word) (t : Trouble) → fault.Graph why ≡ fault_at path t → ⊥
+    never : (path : ByteString) (t : Trouble) → fault.Graph why ≡ fault_at path t → ⊥
     never path trouble.UnknownKind is = cc
     never path trouble.UnknownOption is = cc
     never path trouble.MissingOption is = cc
@@ -85,22 +85,22 @@ plan_made root global components plan same of made =
     ∙ ap (λ g. let p : Plan = record { global = g; components = components } in p) same
     ∙ ap (λ cs. let p : Plan = record { global = global_of root; components = cs } in p) of
 
-module _ (root : Data) (components : List Component) (refused : List Word) (conditions : List (List Word)) (found : List Finding)
+module _ (root : Data) (components : List Component) (refused : List ByteString) (conditions : List (List ByteString)) (found : List Diagnostic)
     (of : components ≡ (plan_of root).components)
     (tried : Tries (all_conditions components) (map conditions_by components) [] refused [] conditions)
-    (all : found ≡ findings root ++ refusals (is_one refused) components) where
+    (all : found ≡ diagnostics root ++ refusals (is_one refused) components) where
   right_here : RefusesRightly (is_one refused) (all_conditions (plan_of root).components)
   right_here = subst (λ (cs : List Component). RefusesRightly (is_one refused) (all_conditions cs)) of (right components refused conditions tried)
 
-  all_here : found ≡ all_findings (is_one refused) root
-  all_here = all ∙ ap (λ (cs : List Component). findings root ++ refusals (is_one refused) cs) of
+  all_here : found ≡ all_diagnostics (is_one refused) root
+  all_here = all ∙ ap (λ (cs : List Component). diagnostics root ++ refusals (is_one refused) cs) of
 
-  pub fault_here : (why : PlanFault) → HasFault found why → (refuses : Word → Bool) × IsRightlyJudged refuses root (Err why)
+  pub fault_here : (why : PlanFault) → HasFault found why → (refuses : ByteString → Bool) × IsRightlyJudged refuses root (Err why)
   fault_here why has =
-      (is_one refused, record { right = λ some. right_here; judged = fault_judged (is_one refused) root why (subst (λ (fs : List Finding). HasFault fs why) all_here has) })
+      (is_one refused, record { right = λ some. right_here; judged = fault_judged (is_one refused) root why (subst (λ (fs : List Diagnostic). HasFault fs why) all_here has) })
 
   pub plan_here : (plan : Plan) → plan ≡ plan_of root → found ≡ [] → IsAccepted (in_order (nodes_of plan)) →
-      (refuses : Word → Bool) × IsRightlyJudged refuses root (Ok plan)
+      (refuses : ByteString → Bool) × IsRightlyJudged refuses root (Ok plan)
   plan_here plan same none accepted = (
     is_one refused,
     record {
@@ -110,7 +110,7 @@ module _ (root : Data) (components : List Component) (refused : List Word) (cond
   )
 
   pub graph_here : (plan : Plan) → plan ≡ plan_of root → found ≡ [] → (why : GraphFault) → IsFault (in_order (nodes_of plan)) why →
-      (why ≡ graph.WantOfMemory → ⊥) → (refuses : Word → Bool) × IsRightlyJudged refuses root (Err (fault.Graph why))
+      (why ≡ graph.WantOfMemory → ⊥) → (refuses : ByteString → Bool) × IsRightlyJudged refuses root (Err (fault.Graph why))
   graph_here plan same none why is memory = (
     is_one refused,
     record {
@@ -121,5 +121,5 @@ module _ (root : Data) (components : List Component) (refused : List Word) (cond
 
   pub conditions_here : (plan : Plan) → plan ≡ plan_of root → found ≡ [] → conditions ≡ map conditions_by plan.components
   conditions_here plan same none =
-      conditions_are components refused conditions tried (none_right (findings root) _ (sym all ∙ none))
+      conditions_are components refused conditions tried (none_right (diagnostics root) _ (sym all ∙ none))
       ∙ ap (λ cs. map conditions_by cs) (of ∙ sym (ap (λ (p : Plan). p.components) same))

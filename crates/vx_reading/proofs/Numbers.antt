@@ -13,8 +13,8 @@ record IsBetween (least most n : ℕ) : Type 0 where
   pub some : least ≤ n
   pub few : n ≤ most
 
-least_told : (least n : ℕ) → nat_le least n ≡ true → least ≤ n
-least_told least n told = grind (arith, nat_tests)
+least_observed : (least n : ℕ) → nat_le least n ≡ true → least ≤ n
+least_observed least n observed = grind (arith, nat_tests)
 
 -- one that is read, or else another that is
 kept : (least most other : ℕ) (o : Option ℤ) → IsBetween least most other → IsBetween least most (unwrap_or (option_and_then (between least most) o) other)
@@ -25,7 +25,7 @@ kept least most other (Some (pos n)) is = by_test (nat_le least n && nat_le n mo
     by_test : (b : Bool) → (b ≡ true → nat_le least n && nat_le n most ≡ true) → IsBetween least most (unwrap_or (if b then Some n else None) other)
     by_test true so =
         let both = and_both (nat_le least n) (nat_le n most) (so refl) in
-        record { some = least_told least n both.0; few = least_told n most both.1 }
+        record { some = least_observed least n both.0; few = least_observed n most both.1 }
     by_test false so = is
 
 read_between : (least most other : ℕ) (o : Option Data) → IsBetween least most other → IsBetween least most (unwrap_or (option_and_then (whole_in least most) o) other)
@@ -57,11 +57,11 @@ pub keys_few : (value : Data) → keys_of value ≤ most_keys
 keys_few value = (keys_between value).few
 
 -- so the tests of both ends pass
-told_least : (least n : ℕ) → least ≤ n → nat_le least n ≡ true
-told_least least n le = grind (arith, nat_tests)
+observed_least : (least n : ℕ) → least ≤ n → nat_le least n ≡ true
+observed_least least n le = grind (arith, nat_tests)
 
-told_between : (least most n : ℕ) → IsBetween least most n → (nat_le least n && nat_le n most) ≡ true
-told_between least most n is = and_made (nat_le least n) (nat_le n most) (told_least least n is.some) (told_least n most is.few)
+observed_between : (least most n : ℕ) → IsBetween least most n → (nat_le least n && nat_le n most) ≡ true
+observed_between least most n is = and_made (nat_le least n) (nat_le n most) (observed_least least n is.some) (observed_least n most is.few)
 
 expire_between : (value : Data) → IsBetween 1 most_period (expire_of value)
 expire_between value = read_between 1 most_period 30000 (get (codes "expire_after_ms") value) (record { some = omega arith; few = omega arith })
@@ -70,8 +70,8 @@ flush_between : (value : Data) → IsBetween 1 most_period (flush_of value)
 flush_between value = read_between 1 most_period 1000 (get (codes "flush_period_ms") value) (record { some = omega arith; few = omega arith })
 
 -- the two periods of a reduce are a millisecond at least, and no longer than may be said
-pub expire_told : (value : Data) → (nat_le 1 (expire_of value) && nat_le (expire_of value) most_period) ≡ true
-expire_told value = told_between 1 most_period (expire_of value) (expire_between value)
+pub expire_observed : (value : Data) → (nat_le 1 (expire_of value) && nat_le (expire_of value) most_period) ≡ true
+expire_observed value = observed_between 1 most_period (expire_of value) (expire_between value)
 
-pub flush_told : (value : Data) → (nat_le 1 (flush_of value) && nat_le (flush_of value) most_period) ≡ true
-flush_told value = told_between 1 most_period (flush_of value) (flush_between value)
+pub flush_observed : (value : Data) → (nat_le 1 (flush_of value) && nat_le (flush_of value) most_period) ≡ true
+flush_observed value = observed_between 1 most_period (flush_of value) (flush_between value)

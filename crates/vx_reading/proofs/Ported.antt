@@ -5,7 +5,7 @@ use Rattle.std.specs.Prelude.{◌&&◌, ◌||◌, nat_le}
 use Rattle.std.specs.List.{AllByRecursion, list_all, flat_map}
 use Rattle.std.proofs.lemmas.Bool.Decides.{nat_tests}
 use Rattle.vx_value.specs.declared.variable.Variable.{Variable}
-use Rattle.vx_value.specs.Texts.{Word}
+use Rattle.vx_value.specs.Texts.{ByteString}
 use Rattle.vx_plan.specs.Accepted.{same_class}
 use Rattle.vx_plan.specs.declared.class.Class.{Class}
 use Rattle.vx_plan.specs.declared.class.Class.TheVariants.{Source, Transform, Sink}
@@ -15,7 +15,7 @@ use Rattle.vx_plan.proofs.Tests.{and_made}
 use Rattle.vx_reading.specs.declared.kind.Kind.{Kind}
 use Rattle.vx_reading.specs.declared.kind.Kind.TheVariants.{Stdin, FileIn, DemoLogs, Filter, Route, Sample, Dedupe, Reduce, Console, FileOut, Blackhole}
 use Rattle.vx_reading.specs.Components.{Part, parts, kind_of}
-use Rattle.vx_reading.specs.Findings.{findings}
+use Rattle.vx_reading.specs.Diagnostics.{diagnostics}
 use Rattle.vx_reading.specs.Made.{is_made}
 use Rattle.vx_reading.specs.Options.{kind_class, most_period}
 use Rattle.vx_reading.specs.Plans.{component, component_of, global_of, ways_of, rate_of, keys_of, expire_of, flush_of}
@@ -23,17 +23,17 @@ use Rattle.vx_reading.specs.Reading.{IsReading, IsPlanOf}
 use Rattle.vx_reading.proofs.Accepted.{kind_class_of}
 use Rattle.vx_reading.proofs.Few.{none_left}
 use Rattle.vx_reading.proofs.Generating.{has_lines, lines_there}
-use Rattle.vx_reading.proofs.Numbers.{rate_some, keys_some, keys_few, expire_told, flush_told}
+use Rattle.vx_reading.proofs.Numbers.{rate_some, keys_some, keys_few, expire_observed, flush_observed}
 use Rattle.vx_reading.proofs.Routes.{few_ways}
 
-few_told : (n : _) → n ≤ 64 → nat_le n 64 ≡ true
-few_told n few = grind (arith, nat_tests)
+few_observed : (n : _) → n ≤ 64 → nat_le n 64 ≡ true
+few_observed n few = grind (arith, nat_tests)
 
-some_told : (n : _) → 1 ≤ n → nat_le 1 n ≡ true
-some_told n some = grind (arith, nat_tests)
+some_observed : (n : _) → 1 ≤ n → nat_le 1 n ≡ true
+some_observed n some = grind (arith, nat_tests)
 
-most_told : (n : _) → n ≤ 1000000 → nat_le n 1000000 ≡ true
-most_told n few = grind (arith, nat_tests)
+most_observed : (n : _) → n ≤ 1000000 → nat_le n 1000000 ≡ true
+most_observed n few = grind (arith, nat_tests)
 
 kind_made : (whole : Global) (part : Part) (kind : Kind) → same_class (kind_class kind) part.class ≡ true → (kind ≡ Route → length (ways_of part.value) ≤ 64) → (kind ≡ DemoLogs → has_lines part ≡ true) →
     is_made (component whole part kind) ≡ true
@@ -65,19 +65,19 @@ kind_made whole part Route same few lines = go part.class same
   where
     go : (class : Class) → same_class Transform class ≡ true → is_made (record (component whole part Route) { class = class }) ≡ true
     go Source e = cc
-    go Transform e = ap (λ (b : Bool). b || false || false || false) (few_told (length (ways_of part.value)) (few refl))
+    go Transform e = ap (λ (b : Bool). b || false || false || false) (few_observed (length (ways_of part.value)) (few refl))
     go Sink e = cc
 kind_made whole part Sample same few lines = go part.class same
   where
     go : (class : Class) → same_class Transform class ≡ true → is_made (record (component whole part Sample) { class = class }) ≡ true
     go Source e = cc
-    go Transform e = ap (λ (b : Bool). b || false || false || false) (some_told (rate_of part.value) (rate_some part.value))
+    go Transform e = ap (λ (b : Bool). b || false || false || false) (some_observed (rate_of part.value) (rate_some part.value))
     go Sink e = cc
 kind_made whole part Dedupe same few lines = go part.class same
   where
     go : (class : Class) → same_class Transform class ≡ true → is_made (record (component whole part Dedupe) { class = class }) ≡ true
     go Source e = cc
-    go Transform e = ap (λ (b : Bool). b || false || false || false) (and_made (nat_le 1 (keys_of part.value)) (nat_le (keys_of part.value) 1000000) (some_told (keys_of part.value) (keys_some part.value)) (most_told (keys_of part.value) (keys_few part.value)))
+    go Transform e = ap (λ (b : Bool). b || false || false || false) (and_made (nat_le 1 (keys_of part.value)) (nat_le (keys_of part.value) 1000000) (some_observed (keys_of part.value) (keys_some part.value)) (most_observed (keys_of part.value) (keys_few part.value)))
     go Sink e = cc
 kind_made whole part Reduce same few lines = go part.class same
   where
@@ -89,7 +89,7 @@ kind_made whole part Reduce same few lines = go part.class same
 
     go : (class : Class) → same_class Transform class ≡ true → is_made (record (component whole part Reduce) { class = class }) ≡ true
     go Source e = cc
-    go Transform e = ap (λ (b : Bool). b || false || false) (and_made expire flush (expire_told part.value) (flush_told part.value))
+    go Transform e = ap (λ (b : Bool). b || false || false) (and_made expire flush (expire_observed part.value) (flush_observed part.value))
     go Sink e = cc
 kind_made whole part Console same few lines = go part.class same
   where
@@ -122,11 +122,11 @@ parts_made whole (part ∷ rest) few lines = go (kind_of part) refl (parts_made 
         and_made (is_made (component whole part kind)) (list_all is_made (flat_map (component_of whole) rest))
         (kind_made whole part kind (kind_class_of part kind is) (λ route. few.0 (is ∙ ap Some route)) (λ demo. lines.0 (is ∙ ap Some demo))) later
 
-pub made_read : (environment : List Variable) (bytes : Word) (plan : Plan) → IsReading environment bytes (Ok plan) → list_all is_made plan.components ≡ true
+pub made_read : (environment : List Variable) (bytes : ByteString) (plan : Plan) → IsReading environment bytes (Ok plan) → list_all is_made plan.components ≡ true
 made_read environment bytes plan (refuses, inl read) =
     let root = read.1.root in
     let of : IsPlanOf refuses root plan = read.1.rightly.judged in
-    let faultless : findings root ≡ [] = none_left (findings root) _ of.faultless in
+    let faultless : diagnostics root ≡ [] = none_left (diagnostics root) _ of.faultless in
     subst (λ (p : Plan). list_all is_made p.components ≡ true) (sym of.same)
     (parts_made (global_of root) (parts root) (few_ways root faultless) (lines_there root faultless))
 made_read environment bytes plan (refuses, inr none) = let e = none.1 in cc

@@ -8,13 +8,13 @@ use Rattle.std.proofs.lemmas.Bool.Decides.{nat_tests}
 use Rattle.std.proofs.lemmas.List.{length-map}
 use Rattle.std.proofs.lemmas.List.Sums.{sum_by-append, sum_by-cons}
 use Rattle.toml.specs.Data.{Data, string, integer, float, boolean, datetime, array, table, Members, no_members, member, as_table, get_member}
-use Rattle.vx_value.specs.Texts.{Word}
-use Rattle.vx_value.proofs.Order.{told_same, same_text-true}
+use Rattle.vx_value.specs.Texts.{ByteString}
+use Rattle.vx_value.proofs.Order.{observed_same, same_text-true}
 use Rattle.vx_plan.specs.declared.route.Route.{Route as Way}
-use Rattle.vx_reading.specs.declared.finding.Finding.{Finding}
+use Rattle.vx_reading.specs.declared.diagnostic.Diagnostic.{Diagnostic}
 use Rattle.vx_reading.specs.declared.kind.Kind.TheVariants.{Route}
 use Rattle.vx_reading.specs.Components.{Part, parts, kind_of}
-use Rattle.vx_reading.specs.Findings.{Owner, findings, kind_findings, own_findings, later_findings, option_findings, given_findings, row_findings, lacking, crowded}
+use Rattle.vx_reading.specs.Diagnostics.{Owner, diagnostics, kind_diagnostics, own_diagnostics, later_diagnostics, option_diagnostics, given_diagnostics, row_diagnostics, lacking, crowded}
 use Rattle.vx_reading.specs.Judging.{Pair, pairs_of, pairs_in, is_table, Given, given_by, given, within, alone, count_given}
 use Rattle.vx_reading.specs.Options.{rows_of, type_row, inputs_row, route_row, most_routes, covers}
 use Rattle.vx_reading.specs.Plans.{way_of, ways_of}
@@ -75,9 +75,9 @@ members_count (member name value rest) = go (slice_cmp nat_cmp (codes "route") n
     go Less is few = omega (arith, split, few)
     go Greater is few = omega (arith, split, few)
     go Equal is few =
-        let same : codes "route" ≡ name = same_text-true (codes "route") name (sym (told_same (codes "route") name Equal (sym is))) in
+        let same : codes "route" ≡ name = same_text-true (codes "route") name (sym (observed_same (codes "route") name Equal (sym is))) in
         let all : length (pairs_in value) ≤ count_given route_row.place here =
-        subst (λ (n : Word). length (pairs_in value) ≤ count_given route_row.place (given_by (rows_of Route) (record { name = n; value = value }))) same (table_counts value) in
+        subst (λ (n : ByteString). length (pairs_in value) ≤ count_given route_row.place (given_by (rows_of Route) (record { name = n; value = value }))) same (table_counts value) in
         let mapped = length-map (pairs_in value) way_of in
         omega (arith, split, all, mapped)
 
@@ -92,26 +92,26 @@ ways_count (datetime d) = omega arith
 ways_count (array ds) = omega arith
 
 -- WHERE NO FAULT IS FOUND
-uncrowded : (b : Bool) (finding : Finding) → (if b then finding ∷ [] else []) ≡ [] → b ≡ false
-uncrowded true finding none = cc
-uncrowded false finding none = refl
+uncrowded : (b : Bool) (diagnostic : Diagnostic) → (if b then diagnostic ∷ [] else []) ≡ [] → b ≡ false
+uncrowded true diagnostic none = cc
+uncrowded false diagnostic none = refl
 
-few_given : (owner : Owner) (lead : Word) (all : List Given) → option_findings owner lead (rows_of Route) all ≡ [] → count_given route_row.place all ≤ 64
+few_given : (owner : Owner) (lead : ByteString) (all : List Given) → option_diagnostics owner lead (rows_of Route) all ≡ [] → count_given route_row.place all ≤ 64
 few_given owner lead all none =
-    let rows = none_right (given_findings owner lead (rows_of Route) all) _ none in
-    let behind_type = none_right (row_findings owner lead all type_row) _ rows in
-    let behind_inputs = none_right (row_findings owner lead all inputs_row) _ behind_type in
-    let of_route = none_left (row_findings owner lead all route_row) _ behind_inputs in
+    let rows = none_right (given_diagnostics owner lead (rows_of Route) all) _ none in
+    let behind_type = none_right (row_diagnostics owner lead all type_row) _ rows in
+    let behind_inputs = none_right (row_diagnostics owner lead all inputs_row) _ behind_type in
+    let of_route = none_left (row_diagnostics owner lead all route_row) _ behind_inputs in
     let free = none_right (lacking owner lead all route_row) (crowded owner lead all route_row) of_route in
     let few : nat_lt most_routes (count_given route_row.place all) ≡ false = uncrowded (nat_lt most_routes (count_given route_row.place all)) _ free in
     grind (arith, nat_tests)
 
-few_of_kind : (first : Option Word) (part : Part) → kind_findings first part Route ≡ [] → length (ways_of part.value) ≤ 64
+few_of_kind : (first : Option ByteString) (part : Part) → kind_diagnostics first part Route ≡ [] → length (ways_of part.value) ≤ 64
 few_of_kind first part none =
-    let given_few = few_given _ _ (given (rows_of Route) (pairs_in part.value)) (none_left _ _ (none_left (own_findings part Route (given (rows_of Route) (pairs_in part.value))) _ (none_right (later_findings first part) _ none))) in
+    let given_few = few_given _ _ (given (rows_of Route) (pairs_in part.value)) (none_left _ _ (none_left (own_diagnostics part Route (given (rows_of Route) (pairs_in part.value))) _ (none_right (later_diagnostics first part) _ none))) in
     let ways = ways_count part.value in
     omega (arith, given_few, ways)
 
 -- each route of a document without faults has at most 64 ways
-pub few_ways : (root : Data) → findings root ≡ [] → AllByRecursion (λ (part : Part). kind_of part ≡ Some Route → length (ways_of part.value) ≤ 64) (parts root)
+pub few_ways : (root : Data) → diagnostics root ≡ [] → AllByRecursion (λ (part : Part). kind_of part ≡ Some Route → length (ways_of part.value) ≤ 64) (parts root)
 few_ways = each_faultless Route (λ (part : Part). length (ways_of part.value) ≤ 64) few_of_kind

@@ -3,16 +3,16 @@ use Rattle.std.proofs.Common.{◌≡◌, inl, inr, Bool, true, false, List, [], 
 use Rattle.std.specs.Prelude.{if◌then◌else◌}
 use Rattle.std.specs.List.{AllByRecursion, flat_map}
 use Rattle.vx_value.specs.declared.variable.Variable.{Variable}
-use Rattle.vx_value.specs.Texts.{Word}
+use Rattle.vx_value.specs.Texts.{ByteString}
 use Rattle.toml.specs.Data.{Data}
 use Rattle.vx_plan.specs.declared.component.Component.{Component}
 use Rattle.vx_plan.specs.declared.plan.Plan.{Plan}
-use Rattle.vx_reading.specs.declared.finding.Finding.{Finding}
+use Rattle.vx_reading.specs.declared.diagnostic.Diagnostic.{Diagnostic}
 use Rattle.vx_reading.specs.declared.plan_fault.PlanFault.{PlanFault}
 use Rattle.vx_reading.specs.declared.plan_fault.PlanFault.TheVariants.{MissingVariable, NotToml, UnknownKind, UnknownOption, MissingOption, BadValue, TooMany, Graph, WantOfMemory}
 use Rattle.vx_reading.specs.Conditions.{Placed, placed_in, conditions_by, all_conditions, owner_by, lead_of, IsRefusable, NoneRefusable, RefusesRightly, refusal, refusals_of, refusals}
 use Rattle.vx_reading.specs.declared.trouble.Trouble.TheVariants as trouble
-use Rattle.vx_reading.specs.Findings.{findings, found}
+use Rattle.vx_reading.specs.Diagnostics.{diagnostics, found}
 use Rattle.vx_reading.specs.Options.{place_path}
 use Rattle.vx_reading.specs.Plans.{plan_of}
 use Rattle.vx_reading.specs.Reading.{IsPlanOf, IsRightlyJudged, IsDocumentJudged, IsTextRead, IsReading}
@@ -22,49 +22,49 @@ use Rattle.vx_reading.proofs.OneAnswer.{one_document, never_both}
 use Rattle.vx_reading.proofs.Refusing.{texts_of, placed_texts}
 
 -- NOTHING IS REFUSED
-module _ (refuses : Word → Bool) where
-  none_placed : (c : Component) (placed : List Placed) → AllByRecursion (λ (text : Word). refuses text ≡ false) (texts_of placed) → flat_map (refusal refuses c) placed ≡ []
+module _ (refuses : ByteString → Bool) where
+  none_placed : (c : Component) (placed : List Placed) → AllByRecursion (λ (text : ByteString). refuses text ≡ false) (texts_of placed) → flat_map (refusal refuses c) placed ≡ []
   none_placed c [] all = refl
   none_placed c (p ∷ rest) all =
       ap (λ (b : Bool). (if b then found (owner_by c) (lead_of c ++ place_path p.place) trouble.BadValue ∷ [] else []) ++ flat_map (refusal refuses c) rest) all.0 ∙ none_placed c rest all.1
 
-  none_by : (c : Component) → AllByRecursion (λ (text : Word). refuses text ≡ false) (conditions_by c) → refusals_of refuses c ≡ []
-  none_by c all = none_placed c (placed_in c.settings) (subst (λ (texts : List Word). AllByRecursion (λ (text : Word). refuses text ≡ false) texts) (sym (placed_texts c.settings)) all)
+  none_by : (c : Component) → AllByRecursion (λ (text : ByteString). refuses text ≡ false) (conditions_by c) → refusals_of refuses c ≡ []
+  none_by c all = none_placed c (placed_in c.settings) (subst (λ (texts : List ByteString). AllByRecursion (λ (text : ByteString). refuses text ≡ false) texts) (sym (placed_texts c.settings)) all)
 
-  none_refused : (components : List Component) → AllByRecursion (λ (text : Word). refuses text ≡ false) (all_conditions components) → refusals refuses components ≡ []
+  none_refused : (components : List Component) → AllByRecursion (λ (text : ByteString). refuses text ≡ false) (all_conditions components) → refusals refuses components ≡ []
   none_refused [] all = refl
   none_refused (c ∷ rest) all =
-      ap (λ (fs : List Finding). fs ++ refusals refuses rest) (none_by c (all_left (λ (text : Word). refuses text ≡ false) (conditions_by c) (all_conditions rest) all))
-      ∙ none_refused rest (all_right (λ (text : Word). refuses text ≡ false) (conditions_by c) (all_conditions rest) all)
+      ap (λ (fs : List Diagnostic). fs ++ refusals refuses rest) (none_by c (all_left (λ (text : ByteString). refuses text ≡ false) (conditions_by c) (all_conditions rest) all))
+      ∙ none_refused rest (all_right (λ (text : ByteString). refuses text ≡ false) (conditions_by c) (all_conditions rest) all)
 
-  unrefused : (text : Word) (b : Bool) → refuses text ≡ b → (refuses text ≡ true → IsRefusable text) → (IsRefusable text → ⊥) → refuses text ≡ false
+  unrefused : (text : ByteString) (b : Bool) → refuses text ≡ b → (refuses text ≡ true → IsRefusable text) → (IsRefusable text → ⊥) → refuses text ≡ false
   unrefused text true is rightly none = absurd (none (rightly is))
   unrefused text false is rightly none = is
 
-  each_taken : (texts : List Word) → AllByRecursion (λ (text : Word). refuses text ≡ true → IsRefusable text) texts → AllByRecursion (λ (text : Word). IsRefusable text → ⊥) texts →
-      AllByRecursion (λ (text : Word). refuses text ≡ false) texts
+  each_taken : (texts : List ByteString) → AllByRecursion (λ (text : ByteString). refuses text ≡ true → IsRefusable text) texts → AllByRecursion (λ (text : ByteString). IsRefusable text → ⊥) texts →
+      AllByRecursion (λ (text : ByteString). refuses text ≡ false) texts
   each_taken [] rightly none = tt
   each_taken (text ∷ texts) rightly none = (unrefused text (refuses text) refl rightly.0 none.0, each_taken texts rightly.1 none.1)
 
   -- so the plan is read by whatever is refused
-  planned : (other : Word → Bool) (root : Data) (plan : Plan) → NoneRefusable plan.components → IsRightlyJudged other root (Ok plan) →
+  planned : (other : ByteString → Bool) (root : Data) (plan : Plan) → NoneRefusable plan.components → IsRightlyJudged other root (Ok plan) →
       RefusesRightly refuses (all_conditions (plan_of root).components) → IsRightlyJudged refuses root (Ok plan)
   planned other root plan sure read right =
       let of : IsPlanOf other root plan = read.judged in
       let none = subst (λ (p : Plan). NoneRefusable p.components) of.same sure in
       let taken = each_taken (all_conditions (plan_of root).components) right.refused none in
-      let faultless = none_left (findings root) _ of.faultless in
+      let faultless = none_left (diagnostics root) _ of.faultless in
       record {
         right = λ some. right;
         judged = record {
-          faultless = ap (λ (more : List Finding). findings root ++ more) (none_refused (plan_of root).components taken) ∙ ap (λ (fs : List Finding). fs ++ []) faultless;
+          faultless = ap (λ (more : List Diagnostic). diagnostics root ++ more) (none_refused (plan_of root).components taken) ∙ ap (λ (fs : List Diagnostic). fs ++ []) faultless;
           same = of.same;
           accepted = of.accepted;
         };
       }
 
 -- what is judged of the text of a document that has a plan
-document_sure : (refuses other : Word → Bool) (environment : List Variable) (text : Word) (plan : Plan) (fault : PlanFault) → NoneRefusable plan.components →
+document_sure : (refuses other : ByteString → Bool) (environment : List Variable) (text : ByteString) (plan : Plan) (fault : PlanFault) → NoneRefusable plan.components →
     IsDocumentJudged other environment text (Ok plan) → IsDocumentJudged refuses environment text (Err fault) → (fault ≡ WantOfMemory → ⊥) → IsDocumentJudged refuses environment text (Ok plan)
 document_sure refuses other environment text plan fault sure p f some = record {
   root = p.root;
@@ -73,7 +73,7 @@ document_sure refuses other environment text plan fault sure p f some = record {
       (subst (λ (root : Data). RefusesRightly refuses (all_conditions (plan_of root).components)) (one_document environment text f.root p.root f.document p.document) (f.rightly.right (λ is. some (cc))));
 }
 
-text_sure : (refuses other : Word → Bool) (environment : List Variable) (text : Word) (plan : Plan) (fault : PlanFault) → NoneRefusable plan.components →
+text_sure : (refuses other : ByteString → Bool) (environment : List Variable) (text : ByteString) (plan : Plan) (fault : PlanFault) → NoneRefusable plan.components →
     IsTextRead other environment text (Ok plan) → IsTextRead refuses environment text (Err fault) → (fault ≡ WantOfMemory → ⊥) → IsTextRead refuses environment text (Ok plan)
 text_sure refuses other environment text plan (MissingVariable name at) sure p f some = let e = sym p.document.whole ∙ f.lacking in cc
 text_sure refuses other environment text plan NotToml sure p f some = let e = sym p.document.parsed ∙ f.parsed in cc
@@ -86,7 +86,7 @@ text_sure refuses other environment text plan (Graph fault) sure p f some = docu
 text_sure refuses other environment text plan WantOfMemory sure p f some = absurd (some refl)
 
 -- it is refused for want of memory alone
-pub surely_read : (environment : List Variable) (bytes : Word) (plan : Plan) (fault : PlanFault) → NoneRefusable plan.components → IsReading environment bytes (Ok plan) →
+pub surely_read : (environment : List Variable) (bytes : ByteString) (plan : Plan) (fault : PlanFault) → NoneRefusable plan.components → IsReading environment bytes (Ok plan) →
     IsReading environment bytes (Err fault) → fault ≡ WantOfMemory
 surely_read environment bytes plan WantOfMemory sure read refused = refl
 surely_read environment bytes plan fault sure (other, inl p) (refuses, inl f) =

@@ -1,6 +1,6 @@
 -- The components of a document.
 use Rattle.std.specs.Prelude.{Bool, true, false, not, ◌&&◌, ◌||◌, Option, Some, None, option_map, option_and_then, is_some, List, [], ◌++◌, ◌∷◌, map, codes, find}
-use Rattle.vx_value.specs.Texts.{Word, same_text}
+use Rattle.vx_value.specs.Texts.{ByteString, same_text}
 use Rattle.toml.specs.Data.{Data, get, as_str}
 use Rattle.vx_plan.specs.declared.class.Class.{Class}
 use Rattle.vx_plan.specs.declared.class.Class.TheVariants.{Source, Transform, Sink}
@@ -13,11 +13,11 @@ pub use Rattle.vx_reading.specs.Options.{is_name_byte, is_name}
 -- a component as the document has it
 pub record Part : Type 0 where
   pub class : Class
-  pub name : Word
+  pub name : ByteString
   pub value : Data
 
 -- the name of the table of a class
-abbrev pub section_name : Class → Word
+abbrev pub section_name : Class → ByteString
 section_name Source = codes "sources"
 section_name Transform = codes "transforms"
 section_name Sink = codes "sinks"
@@ -43,15 +43,15 @@ abbrev pub parts : Data → List Part
 parts root = parts_in root Source ++ (parts_in root Transform ++ parts_in root Sink)
 
 -- where a component stands
-abbrev pub part_path : Part → Word
+abbrev pub part_path : Part → ByteString
 part_path part = section_name part.class ++ dot ∷ part.name
 
 -- whether a class has a component of that name
-abbrev pub has_part : Data → Class → Word → Bool
+abbrev pub has_part : Data → Class → ByteString → Bool
 has_part root class name = is_some (option_and_then (get name) (section root class))
 
 -- whether a name stands in an earlier one of the three tables
-abbrev pub is_taken : Data → Class → Word → Bool
+abbrev pub is_taken : Data → Class → ByteString → Bool
 is_taken root Source name = false
 is_taken root Transform name = has_part root Source name
 is_taken root Sink name = has_part root Source name || has_part root Transform name
@@ -69,10 +69,10 @@ abbrev pub reads_stdin : Part → Bool
 reads_stdin part = elim (kind_of part) [ None ↦ false | Some kind ↦ elim kind [ Stdin ↦ true | FileIn ↦ false | DemoLogs ↦ false | Filter ↦ false | Route ↦ false | Sample ↦ false | Dedupe ↦ false | Reduce ↦ false | Console ↦ false | FileOut ↦ false | Blackhole ↦ false ] ]
 
 -- the name of the first component that reads standard input
-abbrev pub first_stdin : Data → Option Word
+abbrev pub first_stdin : Data → Option ByteString
 first_stdin root = option_map (λ (p : Part). p.name) (find reads_stdin (parts root))
 
 -- whether a component reads standard input after the first that does
-abbrev pub is_later_stdin : Option Word → Part → Bool
+abbrev pub is_later_stdin : Option ByteString → Part → Bool
 is_later_stdin None part = false
 is_later_stdin (Some first) part = reads_stdin part && not (same_text first part.name)

@@ -1,7 +1,7 @@
 -- The conditions of a plan, and the faults of those that are refused.
 use Rattle.std.specs.Prelude.{◌≡◌, Bool, true, false, Option, Some, None, List, [], ◌∷◌, ◌++◌, map, codes, if◌then◌else◌}
 use Rattle.std.specs.List.{AllByRecursion, list_any, flat_map}
-use Rattle.vx_value.specs.Texts.{Word, same_text}
+use Rattle.vx_value.specs.Texts.{ByteString, same_text}
 use Rattle.toml.specs.Data.{Data}
 use Rattle.vx_condition.specs.declared.condition_fault.ConditionFault.{ConditionFault}
 use Rattle.vx_condition.specs.declared.condition_fault.ConditionFault.TheVariants.{Syntax, Deep, BadPattern, WantOfMemory}
@@ -11,22 +11,22 @@ use Rattle.vx_plan.specs.declared.route.Route.{Route as Way}
 use Rattle.vx_plan.specs.declared.settings.Settings.{Settings}
 use Rattle.vx_plan.specs.declared.settings.Settings.TheVariants.{Filter, Route, Sample, Reduce}
 use Rattle.vx_plan.specs.Options.{conditions_of}
-use Rattle.vx_reading.specs.declared.finding.Finding.{Finding}
+use Rattle.vx_reading.specs.declared.diagnostic.Diagnostic.{Diagnostic}
 use Rattle.vx_reading.specs.declared.trouble.Trouble.TheVariants.{BadValue}
 use Rattle.vx_reading.specs.Components.{section_name}
-use Rattle.vx_reading.specs.Findings.{Owner, found, findings, section_number}
+use Rattle.vx_reading.specs.Diagnostics.{Owner, found, diagnostics, section_number}
 use Rattle.vx_reading.specs.Options.{Place, Alone, Within, dot, place_path}
 use Rattle.vx_reading.specs.Plans.{plan_of}
 
 -- the text of a condition, and where the table of its component has it
 pub record Placed : Type 0 where
   pub place : Place
-  pub text : Word
+  pub text : ByteString
 
 abbrev pub placed_way : Way → Placed
 placed_way way = record { place = Within (codes "route") way.name; text = way.condition }
 
-abbrev pub placed_any : Word → Option Word → List Placed
+abbrev pub placed_any : ByteString → Option ByteString → List Placed
 placed_any name None = []
 placed_any name (Some text) = record { place = Alone name; text = text } ∷ []
 
@@ -40,14 +40,14 @@ placed_in (Reduce group_by starts_when ends_when expire flush strategies) =
 placed_in other = []
 
 -- the texts of a component's conditions, and of all that some have
-abbrev pub conditions_by : Component → List Word
+abbrev pub conditions_by : Component → List ByteString
 conditions_by c = conditions_of c.settings
 
-abbrev pub all_conditions : List Component → List Word
+abbrev pub all_conditions : List Component → List ByteString
 all_conditions components = flat_map conditions_by components
 
 -- whether one of some texts is this
-abbrev pub is_one : List Word → Word → Bool
+abbrev pub is_one : List ByteString → ByteString → Bool
 is_one texts text = list_any (λ t. same_text t text) texts
 
 -- whether a fault is want of memory
@@ -58,36 +58,36 @@ is_memory (BadPattern at) = false
 is_memory WantOfMemory = true
 
 -- a text may be refused, whatever memory there is: it is no condition, or has a pattern, of which `regex` may refuse any
-abbrev pub IsRefusable : Word → Type 0
+abbrev pub IsRefusable : ByteString → Type 0
 IsRefusable text = (fault : ConditionFault) × (IsConditionFault text fault × (is_memory fault ≡ false))
 
 -- no condition of some components may
 abbrev pub NoneRefusable : List Component → Type 0
-NoneRefusable components = AllByRecursion (λ (text : Word). IsRefusable text → ⊥) (all_conditions components)
+NoneRefusable components = AllByRecursion (λ (text : ByteString). IsRefusable text → ⊥) (all_conditions components)
 
 -- which of some texts are refused, and which are conditions
-pub record RefusesRightly (refuses : Word → Bool) (texts : List Word) : Type 0 where
-  pub refused : AllByRecursion (λ (text : Word). refuses text ≡ true → IsRefusable text) texts
-  pub taken : AllByRecursion (λ (text : Word). refuses text ≡ false → IsConditionText text) texts
+pub record RefusesRightly (refuses : ByteString → Bool) (texts : List ByteString) : Type 0 where
+  pub refused : AllByRecursion (λ (text : ByteString). refuses text ≡ true → IsRefusable text) texts
+  pub taken : AllByRecursion (λ (text : ByteString). refuses text ≡ false → IsConditionText text) texts
 
 -- to whom the faults of a component of a plan belong, and what leads to its options
 abbrev pub owner_by : Component → Owner
 owner_by c = record { section = section_number c.class; name = c.name }
 
-abbrev pub lead_of : Component → Word
+abbrev pub lead_of : Component → ByteString
 lead_of c = (section_name c.class ++ dot ∷ c.name) ++ dot ∷ []
 
 -- the fault of a condition that is refused
-abbrev pub refusal : (Word → Bool) → Component → Placed → List Finding
+abbrev pub refusal : (ByteString → Bool) → Component → Placed → List Diagnostic
 refusal refuses c p = if refuses p.text then found (owner_by c) (lead_of c ++ place_path p.place) BadValue ∷ [] else []
 
 -- those of a component, and of all
-abbrev pub refusals_of : (Word → Bool) → Component → List Finding
+abbrev pub refusals_of : (ByteString → Bool) → Component → List Diagnostic
 refusals_of refuses c = flat_map (refusal refuses c) (placed_in c.settings)
 
-abbrev pub refusals : (Word → Bool) → List Component → List Finding
+abbrev pub refusals : (ByteString → Bool) → List Component → List Diagnostic
 refusals refuses components = flat_map (refusals_of refuses) components
 
 -- every fault of a document, where these conditions are refused
-abbrev pub all_findings : (Word → Bool) → Data → List Finding
-all_findings refuses root = findings root ++ refusals refuses (plan_of root).components
+abbrev pub all_diagnostics : (ByteString → Bool) → Data → List Diagnostic
+all_diagnostics refuses root = diagnostics root ++ refusals refuses (plan_of root).components

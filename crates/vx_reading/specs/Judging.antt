@@ -1,7 +1,7 @@
 -- What a table gives, and how each value of it is judged.
 use Rattle.std.specs.Prelude.{ℕ, ℤ, pos, negsuc, Bool, false, true, not, ◌&&◌, ◌||◌, ◌==◌, Option, Some, None, option_and_then, List, [], ◌∷◌, length, map, find, count_by, codes, if◌then◌else◌, is_some, nat_lt, nat_le}
 use Rattle.std.specs.List.{list_any, list_all, flat_map}
-use Rattle.vx_value.specs.Texts.{Word, same_text, is_empty}
+use Rattle.vx_value.specs.Texts.{ByteString, same_text, is_empty}
 use Rattle.vx_value.specs.Paths.{path_names}
 use Rattle.toml.specs.Data.{Data, Items, no_items, item, Members, no_members, member, get, as_table, as_array, as_str, as_integer, as_bool}
 use Rattle.vx_reading.specs.declared.trouble.Trouble.{Trouble}
@@ -11,7 +11,7 @@ use Rattle.vx_reading.specs.Options.{Place, Alone, Within, Either, Each, Any, Sh
 
 -- a name and the value under it
 pub record Pair : Type 0 where
-  pub name : Word
+  pub name : ByteString
   pub value : Data
 
 -- the members of a table, in their order, which is that of the bytes of their names
@@ -33,17 +33,17 @@ pub record Given : Type 0 where
   pub value : Data
 
 -- whether options stand in a table of that name
-abbrev pub is_within : Word → Place → Bool
+abbrev pub is_within : ByteString → Place → Bool
 is_within group (Alone name) = false
 is_within group (Within other name) = same_text other group
 is_within group (Either other name) = same_text other group
 is_within group (Each other most) = same_text other group
 is_within group (Any other) = same_text other group
 
-abbrev pub is_group : List Row → Word → Bool
+abbrev pub is_group : List Row → ByteString → Bool
 is_group rows group = list_any (λ (r : Row). is_within group r.place) rows
 
-abbrev pub within : Word → Pair → Given
+abbrev pub within : ByteString → Pair → Given
 within group p = record { place = Within group p.name; value = p.value }
 
 abbrev pub alone : Pair → Given
@@ -79,7 +79,7 @@ abbrev pub is_text : Data → Bool
 is_text value = elim (as_str value) [ None ↦ false | Some text ↦ true ]
 
 -- whether a value is one of some texts
-abbrev pub is_one_of : List Word → Data → Bool
+abbrev pub is_one_of : List ByteString → Data → Bool
 is_one_of texts value = elim (as_str value) [ None ↦ false | Some text ↦ list_any (λ t. same_text t text) texts ]
 
 -- what is wrong with a list of texts, at most so many
@@ -134,15 +134,15 @@ abbrev pub is_lines : Data → Bool
 is_lines value = elim (as_array value) [ None ↦ false | Some items ↦ are_lines (items_in items) ]
 
 -- whether a byte stands in a text
-abbrev pub has_byte : ℕ → Word → Bool
+abbrev pub has_byte : ℕ → ByteString → Bool
 has_byte byte text = list_any (λ b. b == byte) text
 
 -- whether a text is a pattern, which may stand for many files: `*`, `?` or `[` stands in it
-abbrev pub is_pattern : Word → Bool
+abbrev pub is_pattern : ByteString → Bool
 is_pattern text = (has_byte 42 text || has_byte 63 text) || has_byte 91 text
 
 -- whether a text is a template, which each event may fill in: `{` stands in it
-abbrev pub is_template : Word → Bool
+abbrev pub is_template : ByteString → Bool
 is_template text = has_byte 123 text
 
 -- whether a value is a text that is no pattern
@@ -162,7 +162,7 @@ abbrev pub is_fixed : Data → Bool
 is_fixed value = elim (as_str value) [ None ↦ false | Some text ↦ not (is_template text) ]
 
 -- the path that a text spells, if it is one and has at most 31 names
-abbrev pub path_spelled : Word → Option (List Word)
+abbrev pub path_spelled : ByteString → Option (List ByteString)
 path_spelled text = elim (path_names text) [ None ↦ None | Some names ↦ if nat_le (length names) 31 then Some names else None ]
 
 -- whether a value is the text of a path

@@ -4,7 +4,7 @@ pub mod Judging
 pub mod Components
 pub mod Names
 pub mod Stages
-pub mod Findings
+pub mod Diagnostics
 pub mod Plans
 pub mod Conditions
 pub mod Refused

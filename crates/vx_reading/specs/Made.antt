@@ -1,7 +1,7 @@
 -- What a component is that is made of what was read.
 use Rattle.std.specs.Prelude.{Bool, false, true, not, ◌&&◌, ◌||◌, ◌==◌, length, nat_le}
 use Rattle.std.specs.List.{list_all}
-use Rattle.vx_value.specs.Texts.{Word, is_empty}
+use Rattle.vx_value.specs.Texts.{ByteString, is_empty}
 use Rattle.vx_plan.specs.declared.component.Component.{Component}
 use Rattle.vx_plan.specs.declared.settings.Settings.{Settings}
 use Rattle.vx_plan.specs.declared.settings.Settings.TheVariants.{DemoLogs, Filter, Route, Sample, Dedupe, Reduce, Blackhole}
@@ -29,7 +29,7 @@ is_merging (Reduce group_by starts_when ends_when expire flush strategies) =
 is_merging other = false
 
 -- whether a text has no line feed
-abbrev pub is_unbroken : Word → Bool
+abbrev pub is_unbroken : ByteString → Bool
 is_unbroken text = list_all (λ byte. not (byte == 10)) text
 
 -- whether options are those of a source that makes its lines of some texts, none of which has a line feed
@@ -38,11 +38,11 @@ is_generating (DemoLogs demo interval) = not (is_empty demo.lines) && list_all i
 is_generating other = false
 
 -- whether options are those of a sink that writes nothing
-abbrev pub is_swallowing : Settings → Bool
-is_swallowing (Blackhole seconds sink) = true
-is_swallowing other = false
+abbrev pub is_blackhole : Settings → Bool
+is_blackhole (Blackhole seconds sink) = true
+is_blackhole other = false
 
 -- a component works with a port, or is such a transform, such a source or such a sink
 abbrev pub is_made : Component → Bool
 is_made c =
-    is_ported c || (is_transform c && is_picking c.settings) || (is_transform c && is_merging c.settings) || (is_source c && is_generating c.settings) || (is_sink c && is_swallowing c.settings)
+    is_ported c || (is_transform c && is_picking c.settings) || (is_transform c && is_merging c.settings) || (is_source c && is_generating c.settings) || (is_sink c && is_blackhole c.settings)

@@ -1,7 +1,7 @@
 -- Which options there are: tables of rows, read by the same definitions whatever they hold.
 use Rattle.std.specs.Prelude.{ℕ, ◌^◌, ◌-◌, Bool, true, false, not, ◌&&◌, ◌||◌, ◌==◌, Option, Some, None, List, [], ◌∷◌, ◌++◌, length, map, codes, find, nat_le}
 use Rattle.std.specs.List.{list_all}
-use Rattle.vx_value.specs.Texts.{Word, same_text}
+use Rattle.vx_value.specs.Texts.{ByteString, same_text}
 use Rattle.vx_plan.specs.declared.class.Class.{Class}
 use Rattle.vx_plan.specs.declared.class.Class.TheVariants.{Source, Transform, Sink}
 pub use Rattle.vx_plan.specs.Accepted.{same_class}
@@ -13,11 +13,11 @@ use Rattle.vx_reading.specs.Strategies.{hows, how_name}
 -- first name, or in a table of that name under the second; under each name that a port may have in a table of its own, so many times
 -- at most; or under any name in a table of its own
 pub data Place : Type 0 where
-  Alone : Word → Place
-  Within : Word → Word → Place
-  Either : Word → Word → Place
-  Each : Word → ℕ → Place
-  Any : Word → Place
+  Alone : ByteString → Place
+  Within : ByteString → ByteString → Place
+  Either : ByteString → ByteString → Place
+  Each : ByteString → ℕ → Place
+  Any : ByteString → Place
 
 -- what a value has to be: a truth, a text, one of some texts, a list of texts, at most so many, a whole number between two, both
 -- among them, a condition, the stages of a buffer, at most so many, a list of some texts without line feeds, a list of one text that is
@@ -25,7 +25,7 @@ pub data Place : Type 0 where
 pub data Shape : Type 0 where
   Truth : Shape
   AnyText : Shape
-  OneOf : List Word → Shape
+  OneOf : List ByteString → Shape
   Texts : ℕ → Shape
   Whole : ℕ → ℕ → Shape
   Condition : Shape
@@ -47,7 +47,7 @@ abbrev pub dot : ℕ
 dot = 46
 
 -- the names of a place, joined by a dot; of an option that stands in either way, or under names of its own, the first
-abbrev pub place_path : Place → Word
+abbrev pub place_path : Place → ByteString
 place_path (Alone name) = name
 place_path (Within group name) = group ++ dot ∷ name
 place_path (Either group name) = group
@@ -72,11 +72,11 @@ is_name_byte b =
     (((nat_le 65 b && nat_le b 90) || (nat_le 97 b && nat_le b 122)) || (nat_le 48 b && nat_le b 57)) || ((b == 95) || (b == 45))
 
 -- 1 to 64 of these bytes
-abbrev pub is_name : Word → Bool
+abbrev pub is_name : ByteString → Bool
 is_name name = (nat_le 1 (length name) && nat_le (length name) 64) && list_all is_name_byte name
 
 -- a name that a port may have, which isn't that of the last one
-abbrev pub is_route_name : Word → Bool
+abbrev pub is_route_name : ByteString → Bool
 is_route_name name = is_name name && not (same_text name (codes "_unmatched"))
 
 -- whether what is given may stand there by the place of its option: what has names of its own stands in a table, and where they are
@@ -92,11 +92,11 @@ abbrev pub most_at : Place → Option ℕ
 most_at (Each group most) = Some most
 most_at other = None
 
--- whether sinks acknowledge: an option of the whole and of every sink
+-- whether sinks acknowledge: a global option, and one of every sink
 abbrev pub acknowledgements_row : Row
 acknowledgements_row = record { place = Either (codes "acknowledgements") (codes "enabled"); shape = Truth; required = false }
 
--- the options of the whole configuration
+-- the global options
 abbrev pub global_rows : List Row
 global_rows = record { place = Alone (codes "data_dir"); shape = AnyText; required = false } ∷ acknowledgements_row ∷ []
 
@@ -157,14 +157,14 @@ abbrev pub buffer_row : Row
 buffer_row = record { place = Alone (codes "buffer"); shape = Stages most_stages; required = false }
 
 -- for how many events a stage may have room, and all stages of all sinks together
-abbrev pub most_room : ℕ
-most_room = 1000000
+abbrev pub most_capacity : ℕ
+most_capacity = 1000000
 
 -- the options of a stage
 abbrev pub stage_rows : List Row
 stage_rows =
     record { place = Alone (codes "type"); shape = OneOf (codes "memory" ∷ []); required = false }
-    ∷ record { place = Alone (codes "max_events"); shape = Whole 1 most_room; required = false }
+    ∷ record { place = Alone (codes "max_events"); shape = Whole 1 most_capacity; required = false }
     ∷ record { place = Alone (codes "when_full"); shape = OneOf (codes "block" ∷ codes "drop_newest" ∷ codes "overflow" ∷ []); required = false }
     ∷ []
 
@@ -342,7 +342,7 @@ kind_class Console = Sink
 kind_class FileOut = Sink
 kind_class Blackhole = Sink
 
-abbrev pub kind_name : Kind → Word
+abbrev pub kind_name : Kind → ByteString
 kind_name Stdin = codes "stdin"
 kind_name FileIn = codes "file"
 kind_name DemoLogs = codes "demo_logs"
@@ -356,5 +356,5 @@ kind_name FileOut = codes "file"
 kind_name Blackhole = codes "blackhole"
 
 -- the type of that name in a table
-abbrev pub kind_named : Class → Word → Option Kind
+abbrev pub kind_named : Class → ByteString → Option Kind
 kind_named class name = find (λ (k : Kind). same_class (kind_class k) class && same_text (kind_name k) name) kinds

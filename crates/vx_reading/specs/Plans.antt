@@ -1,7 +1,7 @@
 -- The plan of a document without faults.
 use Rattle.std.specs.Prelude.{ℕ, Bool, Option, Some, None, option_and_then, option_map, unwrap_or, List, [], ◌∷◌, map, codes, if◌then◌else◌, true, false}
 use Rattle.std.specs.List.{flat_map}
-use Rattle.vx_value.specs.Texts.{Word, same_text}
+use Rattle.vx_value.specs.Texts.{ByteString, same_text}
 use Rattle.vx_condition.specs.declared.dedupe_fields.DedupeFields.{DedupeFields}
 use Rattle.vx_condition.specs.declared.dedupe_fields.DedupeFields.TheVariants.{Match, Ignore}
 use Rattle.vx_condition.specs.declared.strategy.Strategy.{Strategy}
@@ -32,35 +32,35 @@ use Rattle.vx_reading.specs.Stages.{buffer_of}
 use Rattle.vx_reading.specs.Strategies.{how_named}
 
 -- a text, or another where it isn't given
-abbrev pub text_or : Word → Option Word → Word
+abbrev pub text_or : ByteString → Option ByteString → ByteString
 text_or other None = other
 text_or other (Some text) = text
 
 -- the text under a name of a table
-abbrev pub text_at : Word → Data → Option Word
+abbrev pub text_at : ByteString → Data → Option ByteString
 text_at name value = option_and_then as_str (get name value)
 
 -- the text under a name of a table that stands under another name
-abbrev pub text_within : Word → Word → Data → Option Word
+abbrev pub text_within : ByteString → ByteString → Data → Option ByteString
 text_within group name value = option_and_then (text_at name) (get group value)
 
 -- the truth under a name of a table
-abbrev pub truth_at : Word → Data → Option Bool
+abbrev pub truth_at : ByteString → Data → Option Bool
 truth_at name value = option_and_then as_bool (get name value)
 
 -- the truth that a value is, or that a table has under a name
-abbrev pub truth_in : Word → Data → Option Bool
+abbrev pub truth_in : ByteString → Data → Option Bool
 truth_in name value = elim (as_bool value) [ None ↦ truth_at name value | Some truth ↦ Some truth ]
 
 -- the truth under a name of a table, or under another in a table that stands there
-abbrev pub truth_either : Word → Word → Data → Option Bool
+abbrev pub truth_either : ByteString → ByteString → Data → Option Bool
 truth_either group name value = option_and_then (truth_in name) (get group value)
 
 -- whether sinks acknowledge: as a table says, and otherwise as is said elsewhere
 abbrev pub acknowledgements_of : Bool → Data → Bool
 acknowledgements_of otherwise value = unwrap_or (truth_either (codes "acknowledgements") (codes "enabled") value) otherwise
 
--- the options of the whole: sinks don't acknowledge where it doesn't say
+-- the global options: sinks don't acknowledge where the configuration doesn't say
 abbrev pub global_of : Data → Global
 global_of root = record {
   data_dir = text_or (codes "/var/lib/vector/") (text_at (codes "data_dir") root);
@@ -68,59 +68,59 @@ global_of root = record {
 }
 
 -- the texts among some values
-abbrev pub text_of : Data → List Word
+abbrev pub text_of : Data → List ByteString
 text_of value = elim (as_str value) [ None ↦ [] | Some text ↦ text ∷ [] ]
 
-abbrev pub texts_of : Option Items → List Word
+abbrev pub texts_of : Option Items → List ByteString
 texts_of None = []
 texts_of (Some items) = flat_map text_of (items_in items)
 
 -- the texts of the list under a name of a table
-abbrev pub texts_at : Word → Data → List Word
+abbrev pub texts_at : ByteString → Data → List ByteString
 texts_at name value = texts_of (option_and_then as_array (get name value))
 
 -- the inputs of a component
-abbrev pub inputs_of : Data → List Word
+abbrev pub inputs_of : Data → List ByteString
 inputs_of value = texts_at (codes "inputs") value
 
 -- where a console writes: to standard output where it doesn't say
-abbrev pub target_named : Option Word → ConsoleTarget
+abbrev pub target_named : Option ByteString → ConsoleTarget
 target_named None = Stdout
 target_named (Some text) = if same_text text (codes "stderr") then Stderr else Stdout
 
 -- the length of the longest line that a source takes, under a name of its table: 102,400 bytes where it doesn't say
-abbrev pub length_at : Word → Data → ℕ
+abbrev pub length_at : ByteString → Data → ℕ
 length_at name value = unwrap_or (option_and_then (whole_in 1 most_length) (get name value)) 102400
 
 -- how a source makes an event of a line: the line is the message where it doesn't say
-abbrev pub decoding_named : Option Word → Decoding
+abbrev pub decoding_named : Option ByteString → Decoding
 decoding_named None = decoding.Bytes
 decoding_named (Some text) = if same_text text (codes "json") then decoding.Json else decoding.Bytes
 
 -- how a sink writes an event; it has to say
-abbrev pub codec_named : Option Word → Codec
+abbrev pub codec_named : Option ByteString → Codec
 codec_named None = codec.Text
 codec_named (Some text) = if same_text text (codes "json") then codec.Json else codec.Text
 
 -- the first of some texts; where there is none, the empty text
-abbrev pub first_text : List Word → Word
+abbrev pub first_text : List ByteString → ByteString
 first_text [] = []
 first_text (text ∷ rest) = text
 
 -- the file that a source reads: the first of its list, which has one
-abbrev pub include_of : Data → Word
+abbrev pub include_of : Data → ByteString
 include_of value = first_text (texts_at (codes "include") value)
 
 -- the file to which a sink appends
-abbrev pub path_of : Data → Word
+abbrev pub path_of : Data → ByteString
 path_of value = text_or [] (text_at (codes "path") value)
 
 -- the condition that a value is: a text, or that under `source` in a table
-abbrev pub condition_of : Data → Word
+abbrev pub condition_of : Data → ByteString
 condition_of value = elim (as_str value) [ None ↦ text_or [] (text_at (codes "source") value) | Some text ↦ text ]
 
 -- the condition under a name of a table; where there is none, the empty text, which is no condition
-abbrev pub condition_at : Word → Data → Word
+abbrev pub condition_at : ByteString → Data → ByteString
 condition_at name value = elim (get name value) [ None ↦ [] | Some inner ↦ condition_of inner ]
 
 -- a way of a route: the name of its port, and its condition
@@ -136,7 +136,7 @@ abbrev pub is_rerouted : Data → Bool
 is_rerouted value = unwrap_or (truth_at (codes "reroute_unmatched") value) true
 
 -- the whole number between two under a name of a table; where there is none, another
-abbrev pub whole_at : Word → ℕ → ℕ → ℕ → Data → ℕ
+abbrev pub whole_at : ByteString → ℕ → ℕ → ℕ → Data → ℕ
 whole_at name least most otherwise value = unwrap_or (option_and_then (whole_in least most) (get name value)) otherwise
 
 -- whether numbers stand before the lines of a source: they don't where it doesn't say
@@ -157,7 +157,7 @@ abbrev pub interval_of : Data → ℕ
 interval_of value = whole_at (codes "interval") 0 most_seconds 1 value
 
 -- the whole number between two under a name of a table that stands under another name; where there is none, another
-abbrev pub whole_within : Word → Word → ℕ → ℕ → ℕ → Data → ℕ
+abbrev pub whole_within : ByteString → ByteString → ℕ → ℕ → ℕ → Data → ℕ
 whole_within group name least most otherwise value =
     unwrap_or (option_and_then (λ (inner : Data). option_and_then (whole_in least most) (get name inner)) (get group value)) otherwise
 
@@ -166,19 +166,19 @@ abbrev pub rate_of : Data → ℕ
 rate_of value = whole_at (codes "rate") 1 most_whole 1 value
 
 -- the condition under a name of a table, if there is one
-abbrev pub condition_given : Word → Data → Option Word
+abbrev pub condition_given : ByteString → Data → Option ByteString
 condition_given name value = option_map condition_of (get name value)
 
 -- the path that a value is
-abbrev pub path_in : Data → List (List Word)
+abbrev pub path_in : Data → List (List ByteString)
 path_in value = elim (option_and_then path_spelled (as_str value)) [ None ↦ [] | Some names ↦ names ∷ [] ]
 
 -- the list under a name of a table that stands under another name
-abbrev pub list_within : Word → Word → Data → Option Items
+abbrev pub list_within : ByteString → ByteString → Data → Option Items
 list_within group name value = option_and_then (λ (inner : Data). option_and_then as_array (get name inner)) (get group value)
 
 -- the paths of the values by which events repeat each other where a dedupe says neither
-abbrev pub default_paths : List (List Word)
+abbrev pub default_paths : List (List ByteString)
 default_paths = (codes "timestamp" ∷ []) ∷ (codes "host" ∷ []) ∷ (codes "message" ∷ []) ∷ []
 
 -- some paths, or those
@@ -199,12 +199,12 @@ abbrev pub keys_of : Data → ℕ
 keys_of value = whole_within (codes "cache") (codes "num_events") 1 most_keys 5000 value
 
 -- the paths among some values
-abbrev pub paths_of : Option Items → List (List Word)
+abbrev pub paths_of : Option Items → List (List ByteString)
 paths_of None = []
 paths_of (Some items) = flat_map path_in (items_in items)
 
 -- the paths of the values that tell the groups of a reduce apart: none where it doesn't say
-abbrev pub group_by_of : Data → List (List Word)
+abbrev pub group_by_of : Data → List (List ByteString)
 group_by_of value = paths_of (option_and_then as_array (get (codes "group_by") value))
 
 -- how many milliseconds behind its last event a group is put out: 30,000 where a reduce doesn't say
@@ -243,7 +243,7 @@ first_wait_of value = whole_within (codes "request") (codes "retry_initial_backo
 abbrev pub longest_wait_of : Data → ℕ
 longest_wait_of value = whole_within (codes "request") (codes "retry_max_duration_secs") 1 most_seconds 30 value
 
--- the options that every sink has: it acknowledges as the whole says where it doesn't say itself
+-- the options that every sink has: it acknowledges as the global option says where it doesn't say itself
 abbrev pub sink_of : Global → Data → SinkSettings
 sink_of global value = record {
   acknowledgements = acknowledgements_of global.acknowledgements value;
@@ -276,7 +276,7 @@ settings_of global value Blackhole =
     settings.Blackhole (whole_at (codes "print_interval_secs") 0 most_print_interval 0 value) (sink_of global value)
 
 -- the inputs of a component of a type; a source has none
-abbrev pub inputs_for : Kind → Data → List Word
+abbrev pub inputs_for : Kind → Data → List ByteString
 inputs_for Stdin value = []
 inputs_for FileIn value = []
 inputs_for DemoLogs value = []

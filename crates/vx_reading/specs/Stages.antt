@@ -1,7 +1,7 @@
 -- The stages of a sink's buffer.
 use Rattle.std.specs.Prelude.{ℕ, Bool, not, Option, Some, None, option_and_then, unwrap_or, List, [], ◌∷◌, map, codes, if◌then◌else◌}
 use Rattle.std.specs.List.{sum_by}
-use Rattle.vx_value.specs.Texts.{Word, same_text}
+use Rattle.vx_value.specs.Texts.{ByteString, same_text}
 use Rattle.toml.specs.Data.{Data, get, as_str}
 use Rattle.vx_plan.specs.declared.stage.Stage.{Stage}
 use Rattle.vx_plan.specs.declared.when_full.WhenFull.{WhenFull}
@@ -10,7 +10,7 @@ use Rattle.vx_reading.specs.declared.kind.Kind.{Kind}
 use Rattle.vx_reading.specs.declared.kind.Kind.TheVariants.{Stdin, FileIn, DemoLogs, Filter, Route, Sample, Dedupe, Reduce, Console, FileOut, Blackhole}
 use Rattle.vx_reading.specs.Components.{Part, kind_of}
 use Rattle.vx_reading.specs.Judging.{whole_in, stages_in}
-use Rattle.vx_reading.specs.Options.{most_room}
+use Rattle.vx_reading.specs.Options.{most_capacity}
 
 -- the stages that the table of a sink gives, in order
 abbrev pub stages_of : Data → List Data
@@ -31,11 +31,11 @@ stages_for FileOut value = stages_of value
 stages_for Blackhole value = stages_of value
 
 -- for how many events a stage has room: 500 where it says no number that it may
-abbrev pub room_at : Data → ℕ
-room_at stage = unwrap_or (option_and_then (whole_in 1 most_room) (get (codes "max_events") stage)) 500
+abbrev pub capacity_at : Data → ℕ
+capacity_at stage = unwrap_or (option_and_then (whole_in 1 most_capacity) (get (codes "max_events") stage)) 500
 
 -- what a full stage does: it blocks where it says nothing else that it may
-abbrev pub when_full_named : Option Word → WhenFull
+abbrev pub when_full_named : Option ByteString → WhenFull
 when_full_named None = Block
 when_full_named (Some text) =
     if same_text text (codes "overflow") then Overflow else (if same_text text (codes "drop_newest") then DropNewest else Block)
@@ -51,7 +51,7 @@ is_misplaced last Overflow = last
 
 -- a stage
 abbrev pub stage_of : Data → Stage
-stage_of stage = record { max_events = room_at stage; when_full = when_full_of stage }
+stage_of stage = record { max_events = capacity_at stage; when_full = when_full_of stage }
 
 -- a stage that says nothing
 abbrev pub default_stage : Stage
@@ -67,8 +67,8 @@ abbrev pub buffer_of : Data → List Stage
 buffer_of value = or_default (map stage_of (stages_of value))
 
 -- for how many events some stages have room together
-abbrev pub room_in : List Stage → ℕ
-room_in stages = sum_by (λ (s : Stage). s.max_events) stages
+abbrev pub capacity_in : List Stage → ℕ
+capacity_in stages = sum_by (λ (s : Stage). s.max_events) stages
 
 -- the same of the buffer of a component of a type; only those of sinks count
 abbrev pub room_for : Kind → Data → ℕ
@@ -80,13 +80,13 @@ room_for Route value = 0
 room_for Sample value = 0
 room_for Dedupe value = 0
 room_for Reduce value = 0
-room_for Console value = room_in (buffer_of value)
-room_for FileOut value = room_in (buffer_of value)
-room_for Blackhole value = room_in (buffer_of value)
+room_for Console value = capacity_in (buffer_of value)
+room_for FileOut value = capacity_in (buffer_of value)
+room_for Blackhole value = capacity_in (buffer_of value)
 
 abbrev pub room_of : Part → ℕ
 room_of part = elim (kind_of part) [ None ↦ 0 | Some kind ↦ room_for kind part.value ]
 
 -- the same of some components
-abbrev pub room_of_all : List Part → ℕ
-room_of_all all = sum_by room_of all
+abbrev pub capacity_of_all : List Part → ℕ
+capacity_of_all all = sum_by room_of all

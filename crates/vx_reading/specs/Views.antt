@@ -12,7 +12,7 @@ use Rattle.vx_reading.specs.declared.row.Row as row
 use Rattle.vx_reading.specs.declared.shape.Shape as shape
 use Rattle.vx_reading.specs.declared.shape.Shape.TheVariants as shapes
 use Rattle.vx_reading.specs.Components.{Part}
-use Rattle.vx_reading.specs.Findings.{Owner}
+use Rattle.vx_reading.specs.Diagnostics.{Owner}
 use Rattle.vx_reading.specs.Judging.{Given, Pair}
 use Rattle.vx_reading.specs.Options.{Place, Alone, Within, Either, Each, Any, Shape, Truth, AnyText, OneOf, Texts, Whole, Condition, Stages, Lines, OneFile, FixedText, Paths, Names, Row, Exclusion}
 

@@ -1,8 +1,8 @@
 ghost use Rattle.std.specs.Prelude.{◌≡◌, ◌<◌, length, slice_index_or, IfSome, IfNone, []};
-ghost use Rattle.vx_reading.specs.declared.finding.Finding.{Finding as SpecFinding};
-ghost use Rattle.vx_reading.specs.Findings.{rank, precedes, IsFirst, fault_at, HasFault};
+ghost use Rattle.vx_reading.specs.declared.diagnostic.Diagnostic.{Diagnostic as SpecDiagnostic};
+ghost use Rattle.vx_reading.specs.Diagnostics.{rank, precedes, IsFirst, fault_at, HasFault};
 
-use crate::finding::{Finding, FindingList};
+use crate::diagnostic::{Diagnostic, DiagnosticList};
 use crate::plan_fault::PlanFault;
 use crate::texts::{same_text, text_lt};
 use crate::trouble::Trouble;
@@ -22,7 +22,7 @@ fn rank(trouble: Trouble) -> u8
 }
 
 /// Whether a fault is tried before another: by kind, then by table, then by the component's name, then by path.
-fn precedes(a: &Finding, b: &Finding) -> bool
+fn precedes(a: &Diagnostic, b: &Diagnostic) -> bool
     ensures { result ≡ precedes a.now b.now }
 {
     let rank_a = rank(a.trouble);
@@ -37,15 +37,15 @@ fn precedes(a: &Finding, b: &Finding) -> bool
 }
 
 /// The place of the fault that is tried first.
-fn first_place(findings: &[Finding]) -> usize
-    requires { 0 < length findings.now }
-    ensures within { result < length findings.now }
-    ensures first { (best : SpecFinding) → slice_index_or findings.now result best ≡ best →
-        IsFirst findings.now best }
+fn first_place(diagnostics: &[Diagnostic]) -> usize
+    requires { 0 < length diagnostics.now }
+    ensures within { result < length diagnostics.now }
+    ensures first { (best : SpecDiagnostic) → slice_index_or diagnostics.now result best ≡ best →
+        IsFirst diagnostics.now best }
 {
     let mut best = 0;
-    for (i, finding) in findings.iter().enumerate() {
-        if precedes(finding, &findings[best]) {
+    for (i, diagnostic) in diagnostics.iter().enumerate() {
+        if precedes(diagnostic, &diagnostics[best]) {
             best = i;
         }
     }
@@ -66,14 +66,14 @@ fn fault_at(path: Text, trouble: Trouble) -> PlanFault
 }
 
 /// What is answered of the fault that is tried first; `None` exactly where there is none.
-pub(crate) fn first(findings: FindingList) -> Option<PlanFault>
-    ensures some { IfSome result (λ fault. HasFault findings fault) }
-    ensures none { IfNone result (findings ≡ []) }
+pub(crate) fn first(diagnostics: DiagnosticList) -> Option<PlanFault>
+    ensures some { IfSome result (λ fault. HasFault diagnostics fault) }
+    ensures none { IfNone result (diagnostics ≡ []) }
 {
-    if findings.is_empty() {
+    if diagnostics.is_empty() {
         return None;
     }
-    let mut left = findings.into_vec();
+    let mut left = diagnostics.into_vec();
     let first = left.swap_remove(first_place(left.as_slice()));
     Some(fault_at(first.path, first.trouble))
 }

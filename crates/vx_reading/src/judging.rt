@@ -84,7 +84,7 @@ fn has_other(items: &[Value]) -> bool
 
 /// A whole number, where it is between two, both among them.
 fn between(least: u64, most: u64, number: i64) -> Option<u64>
-    ensures told { result ≡ between least most number }
+    ensures observed { result ≡ between least most number }
     ensures within { IfSome result (λ n. n ≤ most) }
 {
     match u64::try_from(number) {
@@ -95,7 +95,7 @@ fn between(least: u64, most: u64, number: i64) -> Option<u64>
 
 /// The whole number that a value is, where it is one between two.
 pub(crate) fn whole_in(least: u64, most: u64, value: &Value) -> Option<u64>
-    ensures told { result ≡ whole_in least most (view value.now) }
+    ensures observed { result ≡ whole_in least most (view value.now) }
     ensures within { IfSome result (λ n. n ≤ most) }
 {
     match value.as_integer() {

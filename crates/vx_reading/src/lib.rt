@@ -1,13 +1,13 @@
 //! A configuration is read: a text and an environment give a plan, or the first fault.
 #![tactic(auto)]
 
+mod diagnostic;
+mod diagnostic_options;
+mod diagnostic_parts;
+mod diagnostic_stages;
+mod diagnostics;
 mod exclusion;
 mod fields;
-mod finding;
-mod finding_options;
-mod finding_parts;
-mod finding_stages;
-mod findings;
 mod first;
 mod given;
 mod graphs;

@@ -1,7 +1,7 @@
 ghost use Rattle.std.specs.Prelude.{◌≡◌};
 ghost use Rattle.std.specs.Option.{option_map};
 ghost use Rattle.vx_reading.specs.Components.{section_name};
-ghost use Rattle.vx_reading.specs.Findings.{section_number, is_section};
+ghost use Rattle.vx_reading.specs.Diagnostics.{section_number, is_section};
 ghost use Rattle.vx_reading.specs.Options.{global_rows, rows_of, stage_rows, exclusion_of, kind_named};
 ghost use Rattle.vx_reading.specs.Views.{rows_view, exclusion_view};
 
@@ -16,14 +16,14 @@ use vx_plan::Class;
 /// How many inputs a component may have.
 const MOST_INPUTS: usize = 256;
 
-/// Whether sinks acknowledge: an option of the whole and of every sink.
+/// Whether sinks acknowledge: a global option, and one of every sink.
 const ACKNOWLEDGEMENTS_ROW: Row = Row {
     place: Place::Either("acknowledgements", "enabled"),
     shape: Shape::Truth,
     required: false,
 };
 
-/// The options of the whole configuration.
+/// The global options.
 static GLOBAL_ROWS: [Row; 2] = [
     Row {
         place: Place::Alone("data_dir"),
@@ -265,7 +265,7 @@ static REDUCE_ROWS: [Row; 8] = [
 const MOST_STAGES: usize = 8;
 
 /// For how many events a stage may have room, and all stages of all sinks together.
-pub(crate) const MOST_ROOM: u64 = 1_000_000;
+pub(crate) const MOST_CAPACITY: u64 = 1_000_000;
 
 /// The options of a stage of a buffer.
 static STAGE_ROWS: [Row; 3] = [
@@ -276,7 +276,7 @@ static STAGE_ROWS: [Row; 3] = [
     },
     Row {
         place: Place::Alone("max_events"),
-        shape: Shape::Whole(1, MOST_ROOM),
+        shape: Shape::Whole(1, MOST_CAPACITY),
         required: false,
     },
     Row {
@@ -402,7 +402,7 @@ static BLACKHOLE_ROWS: [Row; 10] = [
     LONGEST_WAIT_ROW,
 ];
 
-/// The options of the whole configuration.
+/// The global options.
 pub(crate) fn global_rows() -> &'static [Row]
     ensures { rows_view result.now ≡ global_rows }
 {

@@ -1,6 +1,6 @@
 ghost use Rattle.std.specs.Prelude.{◌≡◌, ◌++◌, ◌∷◌, [], IfOk, OnOk, string_bytes};
 ghost use Rattle.vx_reading.specs.Components.{part_path, section_name as section_name_of};
-ghost use Rattle.vx_reading.specs.Findings.{type_path, part_lead, buffer_lead};
+ghost use Rattle.vx_reading.specs.Diagnostics.{type_path, part_lead, buffer_lead};
 ghost use Rattle.vx_reading.specs.Options.{dot, place_path};
 ghost use Rattle.vx_reading.specs.Views.{place_view, part_view};
 

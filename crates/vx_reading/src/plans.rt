@@ -91,7 +91,7 @@ fn acknowledgements_of(otherwise: bool, table: &Value) -> bool
     }
 }
 
-/// The options of the whole: sinks don't acknowledge where it doesn't say.
+/// The global options: sinks don't acknowledge where the configuration doesn't say.
 pub(crate) fn global_of(alloc: Allocator, root: &Value) -> Result<Global, WantOfMemory>
     ensures { IfOk result (λ global. global ≡ global_of (view root.now)) }
 {
@@ -371,7 +371,7 @@ fn whole_within(
     table: &Value,
 ) -> u64
     requires { otherwise ≤ most }
-    ensures told { result ≡ whole_within group.now name.now least most otherwise (view table.now) }
+    ensures observed { result ≡ whole_within group.now name.now least most otherwise (view table.now) }
     ensures within { result ≤ most }
 {
     let Some(inner) = table.get(group) else {
@@ -449,7 +449,7 @@ fn longest_wait_of(table: &Value) -> u32
     ) as u32
 }
 
-/// The options that every sink has: it acknowledges as the whole says where it doesn't say itself.
+/// The options that every sink has: it acknowledges as the global option says where it doesn't say itself.
 fn sink_of(alloc: Allocator, global: &Global, table: &Value) -> Result<SinkSettings, WantOfMemory>
     ensures { IfOk result (λ sink. sink ≡ sink_of global.now (view table.now)) }
 {

@@ -1,5 +1,5 @@
 ghost use Rattle.std.specs.Prelude.{◌≡◌, Bool, IfOk};
-ghost use Rattle.vx_value.specs.Texts.{Word};
+ghost use Rattle.vx_value.specs.Texts.{ByteString};
 ghost use Rattle.toml.specs.View.{view};
 ghost use Rattle.vx_plan.specs.Accepted.{IsPlan};
 ghost use Rattle.vx_reading.specs.Components.{parts};
@@ -8,7 +8,7 @@ ghost use Rattle.vx_reading.specs.Views.{parts_view};
 ghost use Rattle.vx_reading.specs.Reading.{IsRightlyJudged, IsTextRead, IsReading};
 ghost use Rattle.vx_reading.specs.Answers.{plan_in, HasConditions};
 
-use crate::findings::findings;
+use crate::diagnostics::diagnostics;
 use crate::first::first;
 use crate::graphs::nodes_of;
 use crate::part::{Part, parts};
@@ -34,7 +34,7 @@ pub struct ReadPlan {
 
 /// The plan of a document.
 fn read_root(alloc: Global, root: &Value) -> Result<ReadPlan, PlanFault>
-    ensures judged { (refuses : Word → Bool)
+    ensures judged { (refuses : ByteString → Bool)
         × IsRightlyJudged refuses (view root.now) (plan_in result) }
     ensures conditions { IfOk result HasConditions }
     ensures apart { IfOk result (λ read. AreApart (names_of read.plan.components)) }
@@ -47,7 +47,7 @@ fn read_root(alloc: Global, root: &Value) -> Result<ReadPlan, PlanFault>
 /// The plan of a document that has these components.
 fn read_parts(alloc: Global, root: &Value, all: &[Part<'_>]) -> Result<ReadPlan, PlanFault>
     requires { parts_view all.now ≡ parts (view root.now) }
-    ensures judged { (refuses : Word → Bool)
+    ensures judged { (refuses : ByteString → Bool)
         × IsRightlyJudged refuses (view root.now) (plan_in result) }
     ensures conditions { IfOk result HasConditions }
 {
@@ -57,7 +57,7 @@ fn read_parts(alloc: Global, root: &Value, all: &[Part<'_>]) -> Result<ReadPlan,
         refused,
         conditions,
     } = try_all(alloc, &components)?;
-    let mut found = findings(alloc, root, all)?;
+    let mut found = diagnostics(alloc, root, all)?;
     push_refusals(alloc, &mut found, &refused, &components)?;
     if let Some(fault) = first(found) {
         return Err(fault);
@@ -74,7 +74,7 @@ fn read_parts(alloc: Global, root: &Value, all: &[Part<'_>]) -> Result<ReadPlan,
 
 /// The plan of a text.
 fn read_text(alloc: Global, text: &str, environment: &VariableList) -> Result<ReadPlan, PlanFault>
-    ensures read { (refuses : Word → Bool)
+    ensures read { (refuses : ByteString → Bool)
         × IsTextRead refuses environment.now text.now (plan_in result) }
     ensures conditions { IfOk result HasConditions }
     ensures apart { IfOk result (λ read. AreApart (names_of read.plan.components)) }
@@ -96,7 +96,7 @@ fn read_text(alloc: Global, text: &str, environment: &VariableList) -> Result<Re
 
 /// The plan of a configuration: a TOML text in which variables are replaced by their values.
 ///
-/// A refusal is the first fault in the order of `PlanFault`. Within one kind the options of the whole come first, then
+/// A refusal is the first fault in the order of `PlanFault`. Within one kind the global options come first, then
 /// sources, transforms and sinks, each by the bytes of the component's name, and then by the bytes of the path. Want of
 /// memory comes at any text. The components of a plan have different names, and the plan may be installed. Each condition is read
 /// once, and comes with the plan: nothing is said of what `regex` would make of a pattern another time.

@@ -1,12 +1,12 @@
 // The faults of conditions that are refused.
 ghost use Rattle.std.specs.Prelude.{◌≡◌, ◌++◌, IfOk, OnOk, map};
 ghost use Rattle.std.specs.List.{flat_map};
-ghost use Rattle.vx_value.specs.Texts.{Word};
+ghost use Rattle.vx_value.specs.Texts.{ByteString};
 ghost use Rattle.vx_reading.specs.Conditions.{Placed, placed_way, placed_any, is_one, owner_by, refusal, refusals_of, refusals};
 ghost use Rattle.vx_reading.specs.Refused.{is_kept};
 ghost use Rattle.vx_reading.specs.Views.{place_view, owner_view};
 
-use crate::finding::{FindingList, push};
+use crate::diagnostic::{DiagnosticList, push};
 use crate::options::section_number;
 use crate::owner::Owner;
 use crate::paths::{lead_of, option_path};
@@ -23,7 +23,7 @@ type Refused<'a> = BTreeSet<&'a str, Global>;
 /// Some texts, each once.
 fn by_bytes<'a>(alloc: Global, texts: &'a TextList) -> Result<Refused<'a>, WantOfMemory>
     ensures { IfOk result
-        (λ refused. (text : Word) → is_kept refused text ≡ is_one texts.now text) }
+        (λ refused. (text : ByteString) → is_kept refused text ≡ is_one texts.now text) }
 {
     let mut refused = BTreeSet::new(alloc);
     for text in texts.as_slice() {
@@ -55,14 +55,14 @@ fn owner_by(component: &Component) -> Owner<'_>
 /// Adds the fault of a condition, if it is refused.
 fn push_refusal(
     alloc: Global,
-    findings: &mut FindingList,
+    diagnostics: &mut DiagnosticList,
     refused: &Refused<'_>,
     component: &Component,
     place: Place<'_>,
     text: &Text,
 ) -> Result<(), WantOfMemory>
     ensures { OnOk result
-        (findings.new ≡ findings.old
+        (diagnostics.new ≡ diagnostics.old
         ++ refusal (is_kept refused.now) component.now
         (record { place = place_view place.entry; text = text.now })) }
 {
@@ -73,7 +73,7 @@ fn push_refusal(
     let path = option_path(alloc, lead.as_str(), place)?;
     push(
         alloc,
-        findings,
+        diagnostics,
         owner_by(component),
         path,
         Trouble::BadValue,
@@ -83,20 +83,20 @@ fn push_refusal(
 /// Adds the fault of a condition, if there is one and it is refused.
 fn push_any(
     alloc: Global,
-    findings: &mut FindingList,
+    diagnostics: &mut DiagnosticList,
     refused: &Refused<'_>,
     component: &Component,
     name: &str,
     text: &Option<Text>,
 ) -> Result<(), WantOfMemory>
     ensures { OnOk result
-        (findings.new ≡ findings.old
+        (diagnostics.new ≡ diagnostics.old
         ++ flat_map (refusal (is_kept refused.now) component.now) (placed_any name.now text.now)) }
 {
     match text {
         Some(text) => push_refusal(
             alloc,
-            findings,
+            diagnostics,
             refused,
             component,
             Place::Alone(name),
@@ -109,18 +109,25 @@ fn push_any(
 /// Adds the faults of a route's conditions.
 fn push_ways(
     alloc: Global,
-    findings: &mut FindingList,
+    diagnostics: &mut DiagnosticList,
     refused: &Refused<'_>,
     component: &Component,
     ways: &RouteList,
 ) -> Result<(), WantOfMemory>
     ensures { OnOk result
-        (findings.new ≡ findings.old
+        (diagnostics.new ≡ diagnostics.old
         ++ flat_map (refusal (is_kept refused.now) component.now) (map placed_way ways.now)) }
 {
     for way in ways.as_slice() {
         let place = Place::Within("route", way.name.as_str());
-        push_refusal(alloc, findings, refused, component, place, &way.condition)?;
+        push_refusal(
+            alloc,
+            diagnostics,
+            refused,
+            component,
+            place,
+            &way.condition,
+        )?;
     }
     Ok(())
 }
@@ -128,31 +135,38 @@ fn push_ways(
 /// Adds the faults of a component's conditions.
 fn push_component(
     alloc: Global,
-    findings: &mut FindingList,
+    diagnostics: &mut DiagnosticList,
     refused: &Refused<'_>,
     component: &Component,
 ) -> Result<(), WantOfMemory>
     ensures { OnOk result
-        (findings.new ≡ findings.old ++ refusals_of (is_kept refused.now) component.now) }
+        (diagnostics.new ≡ diagnostics.old ++ refusals_of (is_kept refused.now) component.now) }
 {
     match &component.settings {
         Settings::Filter { condition } => {
             let place = Place::Alone("condition");
-            push_refusal(alloc, findings, refused, component, place, condition)
+            push_refusal(alloc, diagnostics, refused, component, place, condition)
         }
-        Settings::Route { routes, .. } => push_ways(alloc, findings, refused, component, routes),
+        Settings::Route { routes, .. } => push_ways(alloc, diagnostics, refused, component, routes),
         Settings::Sample { exclude, .. } => {
-            push_any(alloc, findings, refused, component, "exclude", exclude)
+            push_any(alloc, diagnostics, refused, component, "exclude", exclude)
         }
         Settings::Reduce {
             starts_when,
             ends_when,
             ..
         } => {
-            push_any(alloc, findings, refused, component, "ends_when", ends_when)?;
             push_any(
                 alloc,
-                findings,
+                diagnostics,
+                refused,
+                component,
+                "ends_when",
+                ends_when,
+            )?;
+            push_any(
+                alloc,
+                diagnostics,
                 refused,
                 component,
                 "starts_when",
@@ -166,15 +180,15 @@ fn push_component(
 /// Adds the faults of the conditions of some components.
 fn push_components(
     alloc: Global,
-    findings: &mut FindingList,
+    diagnostics: &mut DiagnosticList,
     refused: &Refused<'_>,
     components: &ComponentList,
 ) -> Result<(), WantOfMemory>
     ensures { OnOk result
-        (findings.new ≡ findings.old ++ refusals (is_kept refused.now) components.now) }
+        (diagnostics.new ≡ diagnostics.old ++ refusals (is_kept refused.now) components.now) }
 {
     for component in components.as_slice() {
-        push_component(alloc, findings, refused, component)?;
+        push_component(alloc, diagnostics, refused, component)?;
     }
     Ok(())
 }
@@ -182,13 +196,13 @@ fn push_components(
 /// Adds the faults of the conditions of some components, of which these are refused.
 pub(crate) fn push_refusals(
     alloc: Global,
-    findings: &mut FindingList,
+    diagnostics: &mut DiagnosticList,
     refused: &TextList,
     components: &ComponentList,
 ) -> Result<(), WantOfMemory>
     ensures { OnOk result
-        (findings.new ≡ findings.old ++ refusals (is_one refused.now) components.now) }
+        (diagnostics.new ≡ diagnostics.old ++ refusals (is_one refused.now) components.now) }
 {
     let refused = by_bytes(alloc, refused)?;
-    push_components(alloc, findings, &refused, components)
+    push_components(alloc, diagnostics, &refused, components)
 }

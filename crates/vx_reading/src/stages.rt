@@ -3,12 +3,12 @@ ghost use Rattle.std.specs.Prelude.{◌≡◌, ◌++◌, ◌∷◌, ◌+◌, [],
 ghost use Rattle.std.specs.Option.{option_map};
 ghost use Rattle.toml.specs.View.{view, items_view};
 ghost use Rattle.vx_reading.specs.Judging.{items_in};
-ghost use Rattle.vx_reading.specs.Stages.{stages_of, stages_for, room_at, when_full_named, when_full_of, is_misplaced, stage_of, buffer_of, room_in, room_of, room_of_all};
+ghost use Rattle.vx_reading.specs.Stages.{stages_of, stages_for, capacity_at, when_full_named, when_full_of, is_misplaced, stage_of, buffer_of, capacity_in, room_of, capacity_of_all};
 ghost use Rattle.vx_reading.specs.Views.{part_view, parts_view};
 
 use crate::judging::{stages_in, whole_in};
 use crate::kind::Kind;
-use crate::options::MOST_ROOM;
+use crate::options::MOST_CAPACITY;
 use crate::part::{Part, kind_of};
 use crate::texts::same_text;
 use std::alloc::Global;
@@ -17,7 +17,7 @@ use vx_plan::{Stage, StageList, WhenFull};
 use vx_value::WantOfMemory;
 
 /// For how many events a stage has room where it doesn't say.
-const STAGE_ROOM: u32 = 500;
+const STAGE_CAPACITY: u32 = 500;
 
 /// The stages that the table of a sink gives, in order.
 fn stages_of(table: &Value) -> &[Value]
@@ -47,15 +47,15 @@ pub(crate) fn stages_for(kind: Kind, table: &Value) -> &[Value]
 }
 
 /// For how many events a stage has room.
-fn room_at(stage: &Value) -> u32
-    ensures { result ≡ room_at (view stage.now) }
+fn capacity_at(stage: &Value) -> u32
+    ensures { result ≡ capacity_at (view stage.now) }
 {
     let Some(value) = stage.get("max_events") else {
-        return STAGE_ROOM;
+        return STAGE_CAPACITY;
     };
-    match whole_in(1, MOST_ROOM, value) {
+    match whole_in(1, MOST_CAPACITY, value) {
         Some(room) => room as u32,
-        None => STAGE_ROOM,
+        None => STAGE_CAPACITY,
     }
 }
 
@@ -107,7 +107,7 @@ fn stages_read(alloc: Global, given: &[Value]) -> Result<StageList, WantOfMemory
     let mut stages = StageList::new(alloc);
     for value in given {
         let stage = Stage {
-            max_events: room_at(value),
+            max_events: capacity_at(value),
             when_full: when_full_of(value),
         };
         push_stage(&mut stages, stage)?;
@@ -122,7 +122,7 @@ pub(crate) fn buffer_of(alloc: Global, table: &Value) -> Result<StageList, WantO
     let mut buffer = stages_read(alloc, stages_of(table))?;
     if buffer.is_empty() {
         let stage = Stage {
-            max_events: STAGE_ROOM,
+            max_events: STAGE_CAPACITY,
             when_full: WhenFull::Block,
         };
         push_stage(&mut buffer, stage)?;
@@ -141,8 +141,8 @@ fn added(a: u64, b: u64) -> Result<u64, WantOfMemory>
 }
 
 /// For how many events some stages have room together.
-fn room_in(stages: &[Stage]) -> Result<u64, WantOfMemory>
-    ensures { IfOk result (λ room. room ≡ room_in stages.now) }
+fn capacity_in(stages: &[Stage]) -> Result<u64, WantOfMemory>
+    ensures { IfOk result (λ room. room ≡ capacity_in stages.now) }
 {
     let mut room = 0;
     for stage in stages {
@@ -158,7 +158,7 @@ fn room_of(alloc: Global, part: Part<'_>) -> Result<u64, WantOfMemory>
     match kind_of(part) {
         Some(Kind::Console | Kind::FileOut | Kind::Blackhole) => {
             let buffer = buffer_of(alloc, part.value)?;
-            room_in(buffer.as_slice())
+            capacity_in(buffer.as_slice())
         }
         Some(
             Kind::Stdin
@@ -175,8 +175,8 @@ fn room_of(alloc: Global, part: Part<'_>) -> Result<u64, WantOfMemory>
 }
 
 /// For how many events the buffers of all sinks among some components have room together.
-pub(crate) fn room_of_all(alloc: Global, all: &[Part<'_>]) -> Result<u64, WantOfMemory>
-    ensures { IfOk result (λ room. room ≡ room_of_all (parts_view all.now)) }
+pub(crate) fn capacity_of_all(alloc: Global, all: &[Part<'_>]) -> Result<u64, WantOfMemory>
+    ensures { IfOk result (λ room. room ≡ capacity_of_all (parts_view all.now)) }
 {
     let mut room = 0;
     for part in all {

@@ -13,7 +13,7 @@ use vx_value::{Path, PathFault, WantOfMemory};
 const LONGEST_NAME: usize = 64;
 
 /// Whether two texts are the same.
-#[tactic(auto, using(vx_value::proofs::Order::told_equal))]
+#[tactic(auto, using(vx_value::proofs::Order::answer_equal))]
 pub(crate) fn same_text(a: &str, b: &str) -> bool
     ensures { result ≡ same_text a.now b.now }
 {
@@ -21,7 +21,7 @@ pub(crate) fn same_text(a: &str, b: &str) -> bool
 }
 
 /// Whether a text comes before another by its bytes.
-#[tactic(auto, using(vx_value::proofs::Order::told_less))]
+#[tactic(auto, using(vx_value::proofs::Order::answer_less))]
 pub(crate) fn text_lt(a: &str, b: &str) -> bool
     ensures { result ≡ text_lt a.now b.now }
 {

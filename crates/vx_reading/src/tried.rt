@@ -1,6 +1,6 @@
 // The conditions of some components are read, each once.
 ghost use Rattle.std.specs.Prelude.{◌≡◌, ◌∷◌, ◌++◌, [], List, IfOk, OnOk, map};
-ghost use Rattle.vx_value.specs.Texts.{Word};
+ghost use Rattle.vx_value.specs.Texts.{ByteString};
 ghost use Rattle.vx_plan.specs.declared.component.Component.{Component as SpecComponent};
 ghost use Rattle.vx_plan.specs.declared.route.Route.{Route as SpecWay};
 ghost use Rattle.vx_plan.specs.Options.{conditions_of, if_any};

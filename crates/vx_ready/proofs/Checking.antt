@@ -2,7 +2,7 @@
 use Rattle.std.proofs.Common.{◌≡◌, ◌∙◌, ℕ, ◌<◌, ◌≤◌, Bool, true, false, ◌||◌, List, [], ◌∷◌, ◌++◌, length, reverse, Option, Some, None, IfSome, IsSomeAnd, refl, sym, ap, arith}
 use Rattle.std.specs.Prelude.{◌==◌, ◌&&◌, not, filter, nat_le, is_some, if◌then◌else◌}
 use Rattle.std.proofs.lemmas.Bool.Decides.{nat_tests}
-use Rattle.vx_ends.specs.Told.{Told}
+use Rattle.vx_ends.specs.Observation.{Observation}
 use Rattle.vx_condition.specs.Steps.{comes, ticks}
 use Rattle.vx_record.specs.declared.entry.Entry.TheVariants.{Take, Tick, Answer}
 use Rattle.vx_record.specs.Records.{Record}
@@ -13,18 +13,18 @@ use Rattle.vx_record.specs.Turns.{lease_now}
 use Rattle.vx_keeping.specs.Kept.{Kept}
 use Rattle.vx_keeping.specs.Keeping.{taken_in}
 use Rattle.vx_tasks.specs.Joining.{joins_at}
-use Rattle.vx_moves.specs.declared.books.Books.{Books}
+use Rattle.vx_moves.specs.declared.engine.EngineState.{EngineState}
 use Rattle.vx_moves.specs.Keepers.{IsKept, keeper_at}
 use Rattle.vx_moves.specs.Stands.{Stands}
 use Rattle.vx_ready.specs.Asking.{IsSettled}
-use Rattle.vx_ready.proofs.Knowing.{owes_none, seat_there}
+use Rattle.vx_ready.proofs.Knowing.{owes_none, state_there}
 use Rattle.vx_ready.proofs.Working.{joins_transform}
 
 -- no tick waits for its answer
-pub unticked_at : {P : Type 0} {told_by : P → Told} {books : Books P} (i : ℕ) → Stands told_by books → joins_at books.log i ≡ true → ticks_wait books.log i ≡ false
-unticked_at {books = books} i stands joins = go (keeper_at books.keepers.items i) (stands.keepers.whose i ∙ joins) (stands.keeps i)
+pub unticked_at : {P : Type 0} {observe : P → Observation} {engine : EngineState P} (i : ℕ) → Stands observe engine → joins_at engine.log i ≡ true → ticks_wait engine.log i ≡ false
+unticked_at {engine = engine} i stands joins = go (keeper_at engine.keepers.items i) (stands.keepers.whose i ∙ joins) (stands.keeps i)
   where
-    go : (o : Option Kept) → is_some o ≡ true → IfSome o (λ k. IsKept k books.log i) → ticks_wait books.log i ≡ false
+    go : (o : Option Kept) → is_some o ≡ true → IfSome o (λ k. IsKept k engine.log i) → ticks_wait engine.log i ≡ false
     go None some kept = cc
     go (Some k) some kept = kept.unticked
 
@@ -60,7 +60,7 @@ given_none (Answer j outputs discarded kept ∷ h) i none unticked = go (j == i)
     go false is wait before = before is wait
 given_none (e ∷ h) i none unticked = given_none h i none unticked
 
--- AT HOME
+-- UNLEASED
 last_off : (a b c d : Bool) → (a || b || c || d) ≡ false → d ≡ false
 last_off a b c false off = refl
 last_off true b c true off = cc
@@ -68,13 +68,13 @@ last_off false true c true off = cc
 last_off false false true true off = cc
 last_off false false false true off = cc
 
--- one that merges, is at home and owes nothing has answered all that it took
-pub none_taken_there : {P : Type 0} (told_by : P → Told) (books : Books P) (stands : Stands told_by books) (i : ℕ) → i < length books.seats → IsSettled books i → joins_at books.log i ≡ true →
-    taken_in books.log i ≡ []
-none_taken_there told_by books stands i within settled joins =
-    let h = books.log in
-    let there = seat_there books.seats i within in
-    let owed = last_off (owes_birth h i) (owes_spends_in h h i) (owes_discards h i) (owes_answer h i) (owes_none told_by books stands i there.0 there.1 settled) in
+-- one that merges, is unleased and owes nothing has answered all that it took
+pub none_taken_there : {P : Type 0} (observe : P → Observation) (engine : EngineState P) (stands : Stands observe engine) (i : ℕ) → i < length engine.states → IsSettled engine i → joins_at engine.log i ≡ true →
+    taken_in engine.log i ≡ []
+none_taken_there observe engine stands i within settled joins =
+    let h = engine.log in
+    let there = state_there engine.states i within in
+    let owed = last_off (owes_birth h i) (owes_spends_in h h i) (owes_discards h i) (owes_answer h i) (owes_none observe engine stands i there.0 there.1 settled) in
     let took : took_since h i ≡ false = ap (λ b. b && took_since h i) (sym (joins_transform h i joins)) ∙ owed in
     let none = given_none h i took (unticked_at i stands joins) in
     ap (λ (xs : List Input). reverse (filter (λ (x : Input). not (is_tick x.step)) xs)) none

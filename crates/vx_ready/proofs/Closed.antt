@@ -3,7 +3,7 @@ use Rattle.std.proofs.Common.{◌≡◌, ◌∙◌, ℕ, ◌+◌, ◌*◌, ◌<�
 use Rattle.std.specs.Prelude.{◌==◌, not, nat_le, nat_lt, slice_get, if◌then◌else◌}
 use Rattle.std.proofs.lemmas.Bool.{or_parts}
 use Rattle.std.proofs.lemmas.Bool.Decides.{nat_tests}
-use Rattle.vx_ends.specs.Told.{Told}
+use Rattle.vx_ends.specs.Observation.{Observation}
 use Rattle.vx_json.specs.Waits.{wait_after}
 use Rattle.vx_value.specs.Texts.{is_empty}
 use Rattle.vx_plan.specs.declared.component.Component.{Component}
@@ -25,11 +25,11 @@ use Rattle.vx_record.specs.SinkBatches.{attempts_with, failures_with, failed_at,
 use Rattle.vx_record.proofs.Changes.{NoneEmpty}
 use Rattle.vx_record.proofs.Shifting.{stands_at}
 use Rattle.vx_sinkcore.specs.declared.schedule.Schedule.{Schedule}
-use Rattle.vx_seats.specs.declared.facts.Batching.{Batching}
-use Rattle.vx_seats.specs.declared.seat.Seat.{Seat}
-use Rattle.vx_seats.specs.Knowing.{IsFittedTo, IsSince, schedule_of}
-use Rattle.vx_seats.proofs.Holding.{held_none_empty, oldest_among}
-use Rattle.vx_moves.specs.declared.books.Books.{Books}
+use Rattle.vx_instances.specs.declared.facts.Batching.{Batching}
+use Rattle.vx_instances.specs.declared.state.InstanceState.{InstanceState}
+use Rattle.vx_instances.specs.Knowing.{IsFittedTo, IsSince, schedule_of}
+use Rattle.vx_instances.proofs.Holding.{held_none_empty, oldest_among}
+use Rattle.vx_moves.specs.declared.engine.EngineState.{EngineState}
 use Rattle.vx_moves.specs.Stands.{Stands}
 use Rattle.vx_ready.specs.Jobs.{failed_before, is_full, is_full_or_old, retry_moment, schedule_in, times_out}
 use Rattle.vx_ready.proofs.Failing.{first_joined, oldest_failed}
@@ -40,16 +40,16 @@ use Rattle.vx_ready.proofs.Testing.{or_false}
 abbrev collecting : Component → Batching
 collecting c = record { max_events = batch_max_events c.settings; timeout = batch_timeout c.settings; retries = schedule_of c.settings }
 
--- the component of a sink's seat
-record Collects {P : Type 0} (seat : Seat P) (h : Record) (i : ℕ) : Type 0 where
+-- the component of a sink's state
+record Collects {P : Type 0} (state : InstanceState P) (h : Record) (i : ℕ) : Type 0 where
   component : Component
   there : component_of h i ≡ Some component
-  batching : seat.batching ≡ Some (collecting component)
+  batching : state.batching ≡ Some (collecting component)
 
-collects : {P : Type 0} (seat : Seat P) (h : Record) (i : ℕ) → IsSomeAnd (component_of h i) (IsFittedTo seat) → sink_at h i ≡ true → Collects seat h i
-collects {P} seat h i fitted sink = go (component_of h i) refl fitted sink
+collects : {P : Type 0} (state : InstanceState P) (h : Record) (i : ℕ) → IsSomeAnd (component_of h i) (IsFittedTo state) → sink_at h i ≡ true → Collects state h i
+collects {P} state h i fitted sink = go (component_of h i) refl fitted sink
   where
-    go : (o : Option Component) → component_of h i ≡ o → IsSomeAnd o (IsFittedTo seat) → (elim o [ None ↦ false | Some c ↦ is_sink c ]) ≡ true → Collects seat h i
+    go : (o : Option Component) → component_of h i ≡ o → IsSomeAnd o (IsFittedTo state) → (elim o [ None ↦ false | Some c ↦ is_sink c ]) ≡ true → Collects state h i
     go None there is on = absurd is
     go (Some c) there is on = record { component = c; there = there; batching = is.batching ∙ ap (λ (b : Bool). if b then Some (collecting c) else None) on }
 
@@ -97,92 +97,92 @@ wait_by settings k = go (sink_options settings)
     go (Some s) = refl
 
 -- a sink that owes nothing and holds something
-module _ {P : Type 0} (told_by : P → Told) (books : Books P) (stands : Stands told_by books) (i : ℕ) (seat : Seat P) (there : slice_get books.seats i ≡ Some seat)
-    (settled : owes books.log i ≡ false) (goes : cause_of books.log ≡ None) (sink : sink_at books.log i ≡ true) (some : 0 < length (held books.log i)) where
-  has : Collects seat books.log i
-  has = collects seat books.log i (known told_by books stands i seat there).fitted.component sink
+module _ {P : Type 0} (observe : P → Observation) (engine : EngineState P) (stands : Stands observe engine) (i : ℕ) (state : InstanceState P) (there : slice_get engine.states i ≡ Some state)
+    (settled : owes engine.log i ≡ false) (goes : cause_of engine.log ≡ None) (sink : sink_at engine.log i ≡ true) (some : 0 < length (held engine.log i)) where
+  has : Collects state engine.log i
+  has = collects state engine.log i (known observe engine stands i state there).fitted.component sink
 
   -- what is kept of its failures
-  kept : (seat.facts.failures ≡ capped (failures_with books.log i (oldest_held books.log i))) × (seat.facts.failed_at ≡ failed_at books.log i (oldest_held books.log i))
+  kept : (state.facts.failures ≡ capped (failures_with engine.log i (oldest_held engine.log i))) × (state.facts.failed_at ≡ failed_at engine.log i (oldest_held engine.log i))
   kept =
-      (known told_by books stands i seat there).facts.tried sink (oldest_held books.log i)
-      (subst (λ (qs : List (List ℕ)). 0 < count (oldest_held books.log i) (joined qs)) (stands_at books.log (Held i) stands.legal) (oldest_among (held books.log i) (held_none_empty books.log i) some))
+      (known observe engine stands i state there).facts.tried sink (oldest_held engine.log i)
+      (subst (λ (qs : List (List ℕ)). 0 < count (oldest_held engine.log i) (joined qs)) (stands_at engine.log (Held i) stands.legal) (oldest_among (held engine.log i) (held_none_empty engine.log i) some))
 
-  failed_is : failed_before seat.facts.failures ≡ was_attempted books.log i
+  failed_is : failed_before state.facts.failures ≡ was_attempted engine.log i
   failed_is =
-      some_alike seat.facts.failures (failures_with books.log i (oldest_held books.log i)) (attempts_with books.log i (oldest_held books.log i)) kept.0
-      (oldest_failed books.log i stands.legal settled some).0
+      some_alike state.facts.failures (failures_with engine.log i (oldest_held engine.log i)) (attempts_with engine.log i (oldest_held engine.log i)) kept.0
+      (oldest_failed engine.log i stands.legal settled some).0
 
   -- and of the moment of its oldest parcel
-  since_is : was_attempted books.log i ≡ false → seat.facts.since ≡ taken_at books.log i (oldest_held books.log i)
+  since_is : was_attempted engine.log i ≡ false → state.facts.since ≡ taken_at engine.log i (oldest_held engine.log i)
   since_is untried =
-      since_oldest books.log i seat.facts.since (held books.log i) refl some goes (untried_by (attempts_with books.log i (oldest_held books.log i)) untried)
-      (subst (IsSince books.log i seat.facts.since) (sym (stands_at books.log (Held i) stands.legal)) ((known told_by books stands i seat there).facts.since sink))
+      since_oldest engine.log i state.facts.since (held engine.log i) refl some goes (untried_by (attempts_with engine.log i (oldest_held engine.log i)) untried)
+      (subst (IsSince engine.log i state.facts.since) (sym (stands_at engine.log (Held i) stands.legal)) ((known observe engine stands i state there).facts.since sink))
 
-  full_is : (n : ℕ) → n ≡ length (held books.log i) → is_full seat.batching n ≡ is_full_batch books.log i
+  full_is : (n : ℕ) → n ≡ length (held engine.log i) → is_full state.batching n ≡ is_full_batch engine.log i
   full_is n many =
       ap (λ (b : Option Batching). is_full b n) has.batching ∙ ap (nat_le (batch_max_events has.component.settings)) many
-      ∙ sym (ap (λ (o : Option Component). elim o [ None ↦ false | Some x ↦ nat_le (batch_max_events x.settings) (length (held books.log i)) ]) has.there)
+      ∙ sym (ap (λ (o : Option Component). elim o [ None ↦ false | Some x ↦ nat_le (batch_max_events x.settings) (length (held engine.log i)) ]) has.there)
 
-  ends_is : was_attempted books.log i ≡ false → times_out seat.batching seat.facts.since ≡ times_out_at books.log i
+  ends_is : was_attempted engine.log i ≡ false → times_out state.batching state.facts.since ≡ times_out_at engine.log i
   ends_is untried =
-      ap (λ (b : Option Batching). times_out b seat.facts.since) has.batching ∙ ap (λ m. capped (m + batch_timeout has.component.settings)) (since_is untried)
-      ∙ sym (ap (λ (o : Option Component). elim o [ None ↦ 0 | Some x ↦ capped (taken_at books.log i (oldest_held books.log i) + batch_timeout x.settings) ]) has.there)
+      ap (λ (b : Option Batching). times_out b state.facts.since) has.batching ∙ ap (λ m. capped (m + batch_timeout has.component.settings)) (since_is untried)
+      ∙ sym (ap (λ (o : Option Component). elim o [ None ↦ 0 | Some x ↦ capped (taken_at engine.log i (oldest_held engine.log i) + batch_timeout x.settings) ]) has.there)
 
-  due_is : (now n : ℕ) → n ≡ length (held books.log i) → was_attempted books.log i ≡ false →
-      is_full_or_old seat.batching seat.facts.since n now ≡ (is_full_batch books.log i || is_timed_out books.log i now)
+  due_is : (now n : ℕ) → n ≡ length (held engine.log i) → was_attempted engine.log i ≡ false →
+      is_full_or_old state.batching state.facts.since n now ≡ (is_full_batch engine.log i || is_timed_out engine.log i now)
   due_is now n many untried =
-      let h = books.log in
+      let h = engine.log in
       let c = has.component in
-      ap (λ (b : Option Batching). is_full_or_old b seat.facts.since n now) has.batching
-      ∙ ap (λ m. nat_le (batch_max_events c.settings) m || nat_le (capped (seat.facts.since + batch_timeout c.settings)) now) many
+      ap (λ (b : Option Batching). is_full_or_old b state.facts.since n now) has.batching
+      ∙ ap (λ m. nat_le (batch_max_events c.settings) m || nat_le (capped (state.facts.since + batch_timeout c.settings)) now) many
       ∙ ap (λ m. nat_le (batch_max_events c.settings) (length (held h i)) || nat_le (capped (m + batch_timeout c.settings)) now) (since_is untried)
       ∙ sym (ap (λ (o : Option Component). (elim o [ None ↦ false | Some x ↦ nat_le (batch_max_events x.settings) (length (held h i)) ]) || (elim o [ None ↦ false | Some x ↦ nat_le (capped (taken_at h i (oldest_held h i) + batch_timeout x.settings)) now ])) has.there)
 
-  pub closed_some : (now n : ℕ) (full due last : Bool) → n ≡ length (held books.log i) → full ≡ is_full_or_old seat.batching seat.facts.since n now → due ≡ (full || failed_before seat.facts.failures) →
-      last ≡ is_last_batch books.log i → (due || last) ≡ is_batch_closed books.log i now
+  pub closed_some : (now n : ℕ) (full due last : Bool) → n ≡ length (held engine.log i) → full ≡ is_full_or_old state.batching state.facts.since n now → due ≡ (full || failed_before state.facts.failures) →
+      last ≡ is_last_batch engine.log i → (due || last) ≡ is_batch_closed engine.log i now
   closed_some now n full due last many full_by due_by last_by =
-      let h = books.log in
+      let h = engine.log in
       ap (λ b. b || last) (due_by ∙ ap (λ b. full || b) failed_is) ∙ ap (λ b. (full || was_attempted h i) || b) last_by
       ∙ closed_by (is_full_batch h i) (is_timed_out h i now) (is_last_batch h i) (was_attempted h i) full (λ untried. full_by ∙ due_is now n many untried)
       ∙ sym (ap (λ b. not b && (is_full_batch h i || is_timed_out h i now || is_last_batch h i || was_attempted h i)) (not_empty (held h i) some))
 
   -- when it may attempt that
-  pub retries_at : (schedule : Schedule) (moment : ℕ) → schedule ≡ schedule_in seat.batching →
-      ((n : ℕ) → seat.facts.failures ≡ capped n → n ≤ schedule.attempts → moment ≡ retry_moment schedule n seat.facts.failed_at) → moment ≡ retry_from books.log i
+  pub retries_at : (schedule : Schedule) (moment : ℕ) → schedule ≡ schedule_in state.batching →
+      ((n : ℕ) → state.facts.failures ≡ capped n → n ≤ schedule.attempts → moment ≡ retry_moment schedule n state.facts.failed_at) → moment ≡ retry_from engine.log i
   retries_at schedule moment scheduled is =
-      let h = books.log in
+      let h = engine.log in
       let c = has.component in
       let n = failures_with h i (oldest_held h i) in
       let same : schedule ≡ schedule_of c.settings = scheduled ∙ ap schedule_in has.batching in
       let allowed : attempts_allowed h i ≡ retry_attempts c.settings + 1 = ap (λ (o : Option Component). (elim o as (λ _. ℕ) [ None ↦ 0 | Some x ↦ retry_attempts x.settings ]) + 1) has.there in
       let most : schedule.attempts ≡ retry_attempts c.settings = ap (λ (s : Schedule). s.attempts) same in
       let fewer = (oldest_failed h i stands.legal settled some).1 in
-      is n kept.0 (omega (arith, fewer, allowed, most)) ∙ ap (λ (s : Schedule). retry_moment s n seat.facts.failed_at) same
-      ∙ ap (λ m. if n == 0 then 0 else capped (seat.facts.failed_at + m)) (wait_by c.settings n)
+      is n kept.0 (omega (arith, fewer, allowed, most)) ∙ ap (λ (s : Schedule). retry_moment s n state.facts.failed_at) same
+      ∙ ap (λ m. if n == 0 then 0 else capped (state.facts.failed_at + m)) (wait_by c.settings n)
       ∙ ap (λ m. if n == 0 then 0 else capped (m + retry_wait c.settings n)) kept.1
       ∙ sym (ap (λ (o : Option Component). if n == 0 then 0 else capped (failed_at h i (oldest_held h i) + (elim o as (λ _. ℕ) [ None ↦ 0 | Some x ↦ retry_wait x.settings n ]))) has.there)
 
   -- and for which moment it waits
-  pub ready_is : (n : ℕ) (full due ready last : Bool) → n ≡ length (held books.log i) → full ≡ is_full seat.batching n → due ≡ (full || failed_before seat.facts.failures) → last ≡ is_last_batch books.log i → ready ≡ (due || last) →
-      ready ≡ (is_full_batch books.log i || is_last_batch books.log i || was_attempted books.log i)
+  pub ready_is : (n : ℕ) (full due ready last : Bool) → n ≡ length (held engine.log i) → full ≡ is_full state.batching n → due ≡ (full || failed_before state.facts.failures) → last ≡ is_last_batch engine.log i → ready ≡ (due || last) →
+      ready ≡ (is_full_batch engine.log i || is_last_batch engine.log i || was_attempted engine.log i)
   ready_is n full due ready last many full_by due_by last_by ready_by_two =
-      let h = books.log in
-      ready_by_two ∙ ap (λ b. b || last) (due_by ∙ ap (λ b. b || failed_before seat.facts.failures) (full_by ∙ full_is n many) ∙ ap (λ b. is_full_batch h i || b) failed_is)
+      let h = engine.log in
+      ready_by_two ∙ ap (λ b. b || last) (due_by ∙ ap (λ b. b || failed_before state.facts.failures) (full_by ∙ full_is n many) ∙ ap (λ b. is_full_batch h i || b) failed_is)
       ∙ ap (λ b. (is_full_batch h i || was_attempted h i) || b) last_by ∙ ready_by (is_full_batch h i) (was_attempted h i) (is_last_batch h i)
 
-  waits_some : (ready : Bool) → ready ≡ (is_full_batch books.log i || is_last_batch books.log i || was_attempted books.log i) →
-      Some (if ready then retry_from books.log i else times_out_at books.log i) ≡ sink_waits books.log i
+  waits_some : (ready : Bool) → ready ≡ (is_full_batch engine.log i || is_last_batch engine.log i || was_attempted engine.log i) →
+      Some (if ready then retry_from engine.log i else times_out_at engine.log i) ≡ sink_waits engine.log i
   waits_some ready is =
-      ap (λ (b : Bool). Some (if b then retry_from books.log i else times_out_at books.log i)) is
-      ∙ sym (ap (λ (b : Bool). if b then None else Some (if is_full_batch books.log i || is_last_batch books.log i || was_attempted books.log i then retry_from books.log i else times_out_at books.log i)) (not_empty (held books.log i) some))
+      ap (λ (b : Bool). Some (if b then retry_from engine.log i else times_out_at engine.log i)) is
+      ∙ sym (ap (λ (b : Bool). if b then None else Some (if is_full_batch engine.log i || is_last_batch engine.log i || was_attempted engine.log i then retry_from engine.log i else times_out_at engine.log i)) (not_empty (held engine.log i) some))
 
-  pub waits_again : (moment : ℕ) → moment ≡ retry_from books.log i → true ≡ (is_full_batch books.log i || is_last_batch books.log i || was_attempted books.log i) → Some moment ≡ sink_waits books.log i
+  pub waits_again : (moment : ℕ) → moment ≡ retry_from engine.log i → true ≡ (is_full_batch engine.log i || is_last_batch engine.log i || was_attempted engine.log i) → Some moment ≡ sink_waits engine.log i
   waits_again moment is ready = ap (λ (m : ℕ). Some m) is ∙ waits_some true ready
 
-  pub waits_ended : (moment : ℕ) → moment ≡ times_out seat.batching seat.facts.since → false ≡ (is_full_batch books.log i || is_last_batch books.log i || was_attempted books.log i) → Some moment ≡ sink_waits books.log i
+  pub waits_ended : (moment : ℕ) → moment ≡ times_out state.batching state.facts.since → false ≡ (is_full_batch engine.log i || is_last_batch engine.log i || was_attempted engine.log i) → Some moment ≡ sink_waits engine.log i
   waits_ended moment is unready =
-      ap (λ (m : ℕ). Some m) (is ∙ ends_is (or_parts (is_full_batch books.log i || is_last_batch books.log i) (was_attempted books.log i) (sym unready)).1) ∙ waits_some false unready
+      ap (λ (m : ℕ). Some m) (is ∙ ends_is (or_parts (is_full_batch engine.log i || is_last_batch engine.log i) (was_attempted engine.log i) (sym unready)).1) ∙ waits_some false unready
 
 -- one that holds nothing waits for none
 pub waits_for_none : (h : Record) (i n : ℕ) → n ≡ length (held h i) → n ≡ 0 → None ≡ sink_waits h i

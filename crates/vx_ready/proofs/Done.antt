@@ -2,7 +2,7 @@
 use Rattle.std.proofs.Common.{◌≡◌, ◌∙◌, ℕ, ◌<◌, Bool, true, false, ◌&&◌, List, [], ◌∷◌, length, Option, Some, None, IsSome, refl, sym, ap, arith}
 use Rattle.std.specs.Prelude.{◌==◌, ◌↔◌, not, slice_get, if◌then◌else◌}
 use Rattle.std.proofs.lemmas.Bool.Decides.{nat_tests}
-use Rattle.vx_ends.specs.Told.{Told}
+use Rattle.vx_ends.specs.Observation.{Observation}
 use Rattle.vx_value.specs.Texts.{is_empty}
 use Rattle.vx_ledger.specs.declared.parcel.Parcel.{Parcel}
 use Rattle.vx_record.specs.Records.{Record}
@@ -21,37 +21,37 @@ use Rattle.vx_places.specs.Looks.{HasEmptyBuffer, HoldsMany}
 use Rattle.vx_places.specs.Views.{parcels_here}
 use Rattle.vx_places.proofs.Making.{held_says}
 use Rattle.vx_places.proofs.Recorded.{buffer_is, holds_is}
-use Rattle.vx_seats.specs.declared.seat.Seat.{Seat}
-use Rattle.vx_moves.specs.declared.books.Books.{Books}
+use Rattle.vx_instances.specs.declared.state.InstanceState.{InstanceState}
+use Rattle.vx_moves.specs.declared.engine.EngineState.{EngineState}
 use Rattle.vx_moves.specs.Stands.{Stands}
 use Rattle.vx_ready.specs.Asking.{IsSettled}
-use Rattle.vx_ready.proofs.Knowing.{at_home, owes_none, seat_there}
+use Rattle.vx_ready.proofs.Knowing.{unleased_there, owes_none, state_there}
 use Rattle.vx_ready.proofs.Testing.{same_tests, empty_tests}
 
--- what an instance at home holds that doesn't merge isn't lent
-kept_at : {P : Type 0} (told_by : P → Told) (books : Books P) (stands : Stands told_by books) (i : ℕ) (seat : Seat P) (there : slice_get books.seats i ≡ Some seat) → i < length books.seats → IsSettled books i →
-    joins_at books.log i ≡ false → IsKept books.places i
-kept_at told_by books stands i seat there within settled alone =
-    go (parcels_here books.places (Held i)) refl (stands.kept i (at_home told_by books stands i seat there settled).1.home alone)
+-- what an unleased instance holds that doesn't merge isn't lent
+kept_at : {P : Type 0} (observe : P → Observation) (engine : EngineState P) (stands : Stands observe engine) (i : ℕ) (state : InstanceState P) (there : slice_get engine.states i ≡ Some state) → i < length engine.states → IsSettled engine i →
+    joins_at engine.log i ≡ false → IsKept engine.places i
+kept_at observe engine stands i state there within settled alone =
+    go (parcels_here engine.places (Held i)) refl (stands.kept i (unleased_there observe engine stands i state there settled).1.unleased alone)
   where
-    go : (o : Option (List Parcel)) → parcels_here books.places (Held i) ≡ o → IsSome o → IsKept books.places i
+    go : (o : Option (List Parcel)) → parcels_here engine.places (Held i) ≡ o → IsSome o → IsKept engine.places i
     go None there is = cc
-    go (Some parcels) there is = (held_says books.places i (let size = stands.size in omega (arith, size, within))).0 parcels there
+    go (Some parcels) there is = (held_says engine.places i (let size = stands.size in omega (arith, size, within))).0 parcels there
 
-pub kept_there : {P : Type 0} (told_by : P → Told) (books : Books P) (stands : Stands told_by books) (i : ℕ) → i < length books.seats → IsSettled books i →
-    joins_at books.log i ≡ false → IsKept books.places i
-kept_there told_by books stands i within settled = let there = seat_there books.seats i within in kept_at told_by books stands i there.0 there.1 within settled
+pub kept_there : {P : Type 0} (observe : P → Observation) (engine : EngineState P) (stands : Stands observe engine) (i : ℕ) → i < length engine.states → IsSettled engine i →
+    joins_at engine.log i ≡ false → IsKept engine.places i
+kept_there observe engine stands i within settled = let there = state_there engine.states i within in kept_at observe engine stands i there.0 there.1 within settled
 
-pub unbuffered_is : {P : Type 0} (told_by : P → Told) (books : Books P) (i : ℕ) (empty : Bool) → Stands told_by books → (empty ≡ true) ↔ HasEmptyBuffer books.places i → empty ≡ is_empty (buffered books.log i)
-unbuffered_is told_by books i empty stands says =
-    let law = buffer_is books.log books.places i stands.legal stands.places in
-    let tests = empty_tests (buffered books.log i) in
-    same_tests empty (is_empty (buffered books.log i)) (λ e. tests.1 (law.0 (says.0 e)), λ e. says.1 (law.1 (tests.0 e)))
+pub unbuffered_is : {P : Type 0} (observe : P → Observation) (engine : EngineState P) (i : ℕ) (empty : Bool) → Stands observe engine → (empty ≡ true) ↔ HasEmptyBuffer engine.places i → empty ≡ is_empty (buffered engine.log i)
+unbuffered_is observe engine i empty stands says =
+    let law = buffer_is engine.log engine.places i stands.legal stands.places in
+    let tests = empty_tests (buffered engine.log i) in
+    same_tests empty (is_empty (buffered engine.log i)) (λ e. tests.1 (law.0 (says.0 e)), λ e. says.1 (law.1 (tests.0 e)))
 
-pub held_is : {P : Type 0} (told_by : P → Told) (books : Books P) (i n : ℕ) → Stands told_by books → HoldsMany books.places i n → n ≡ length (held books.log i)
-held_is told_by books i n stands many = holds_is books.log books.places i n stands.legal stands.places many
+pub held_is : {P : Type 0} (observe : P → Observation) (engine : EngineState P) (i n : ℕ) → Stands observe engine → HoldsMany engine.places i n → n ≡ length (held engine.log i)
+held_is observe engine i n stands many = holds_is engine.log engine.places i n stands.legal stands.places many
 
--- what stands in its hand by the list of it
+-- what stands among what it holds by the list of it
 pub none_held : (h : Record) (i : ℕ) → IsLegal h → is_empty (at h (Held i)) ≡ is_empty (held h i)
 none_held h i legal = ap (λ (qs : List (List ℕ)). is_empty qs) (sym (stands_at h (Held i) legal))
 
@@ -67,15 +67,15 @@ source_tests true false true noticed due e = refl
 source_tests true false false noticed due e = refl
 source_tests false false sent noticed due e = refl
 
-pub source_done_is : {P : Type 0} (told_by : P → Told) (books : Books P) (stands : Stands told_by books) (i : ℕ) → i < length books.seats → IsSettled books i → (dry sent noticed due over confirmed result : Bool) →
-    dry ≡ is_dry books.log i → sent ≡ is_sent books.log i → noticed ≡ all_noticed books.log i → due ≡ is_confirm_due books.log i → over ≡ (dry && sent) → confirmed ≡ (noticed && not due) → result ≡ (over && confirmed) →
-    result ≡ is_source_done books.log i
-source_done_is told_by books stands i within settled dry sent noticed due over confirmed result dry_is sent_is noticed_is due_is over_is confirmed_is result_is =
-    let there = seat_there books.seats i within in
-    let over_so : over ≡ (is_dry books.log i && is_sent books.log i) = over_is ∙ ap (λ b. b && sent) dry_is ∙ ap (λ b. is_dry books.log i && b) sent_is in
-    let confirmed_so : confirmed ≡ (all_noticed books.log i && not (is_confirm_due books.log i)) = confirmed_is ∙ ap (λ b. b && not due) noticed_is ∙ ap (λ b. all_noticed books.log i && not b) due_is in
-    result_is ∙ ap (λ b. b && confirmed) over_so ∙ ap (λ b. (is_dry books.log i && is_sent books.log i) && b) confirmed_so
-    ∙ source_tests (is_dry books.log i) (owes books.log i) (is_sent books.log i) (all_noticed books.log i) (is_confirm_due books.log i) (owes_none told_by books stands i there.0 there.1 settled)
+pub source_done_is : {P : Type 0} (observe : P → Observation) (engine : EngineState P) (stands : Stands observe engine) (i : ℕ) → i < length engine.states → IsSettled engine i → (dry sent noticed due over confirmed result : Bool) →
+    dry ≡ is_dry engine.log i → sent ≡ is_sent engine.log i → noticed ≡ all_noticed engine.log i → due ≡ is_confirm_due engine.log i → over ≡ (dry && sent) → confirmed ≡ (noticed && not due) → result ≡ (over && confirmed) →
+    result ≡ is_source_done engine.log i
+source_done_is observe engine stands i within settled dry sent noticed due over confirmed result dry_is sent_is noticed_is due_is over_is confirmed_is result_is =
+    let there = state_there engine.states i within in
+    let over_so : over ≡ (is_dry engine.log i && is_sent engine.log i) = over_is ∙ ap (λ b. b && sent) dry_is ∙ ap (λ b. is_dry engine.log i && b) sent_is in
+    let confirmed_so : confirmed ≡ (all_noticed engine.log i && not (is_confirm_due engine.log i)) = confirmed_is ∙ ap (λ b. b && not due) noticed_is ∙ ap (λ b. all_noticed engine.log i && not b) due_is in
+    result_is ∙ ap (λ b. b && confirmed) over_so ∙ ap (λ b. (is_dry engine.log i && is_sent engine.log i) && b) confirmed_so
+    ∙ source_tests (is_dry engine.log i) (owes engine.log i) (is_sent engine.log i) (all_noticed engine.log i) (is_confirm_due engine.log i) (owes_none observe engine stands i there.0 there.1 settled)
 
 -- TRANSFORMS AND SINKS
 worker_tests : (ending buffer sent none : Bool) → (((buffer && sent) && none) && ending) ≡ (ending && buffer && sent && none)

@@ -9,7 +9,7 @@ use Rattle.vx_record.specs.Parcels.{first_copy}
 use Rattle.vx_record.specs.SinkBatches.{attempts_with, failures_with, attempts_allowed, oldest_held}
 use Rattle.vx_record.proofs.Changes.{NoneEmpty}
 use Rattle.vx_record.proofs.Untried.{held_retried, spends_settled}
-use Rattle.vx_seats.proofs.Holding.{held_none_empty, oldest_among}
+use Rattle.vx_instances.proofs.Holding.{held_none_empty, oldest_among}
 
 pub first_joined : (q : List ℕ) (qs : List (List ℕ)) → NoneEmpty (q ∷ qs) → first_copy (joined (q ∷ qs)) ≡ first_copy q
 first_joined [] qs full = absurd full

@@ -4,7 +4,7 @@ use Rattle.std.specs.Prelude.{◌&&◌, not, nat_lt, slice_get}
 use Rattle.std.specs.List.{list_any}
 use Rattle.std.proofs.lemmas.Bool.Decides.{nat_tests}
 use Rattle.std.proofs.lemmas.Bool.{or_from as neither, not-true as is_not}
-use Rattle.vx_value.specs.Texts.{Word, same_text}
+use Rattle.vx_value.specs.Texts.{ByteString, same_text}
 use Rattle.vx_value.proofs.Order.{same_text-true, same_text-refl}
 use Rattle.vx_plan.specs.declared.component.Component.{Component}
 use Rattle.vx_plan.specs.declared.plan.Plan.{Plan}
@@ -26,7 +26,7 @@ named_as : (h : Record) (plan : Plan) (i : ℕ) (c : Component) → IsLegal h �
 named_as h plan i c legal force at = ap (λ (o : Option Wiring). elim o [ None ↦ [] | Some w ↦ w.name ]) (wired_so h plan i c legal force at)
 
 -- where no component has a name, that in any place hasn't
-no_other : (components : List Component) (k : ℕ) (d : Component) (w : Word) → list_any (λ (x : Component). same_text x.name w) components ≡ false → slice_get components k ≡ Some d → same_text d.name w ≡ false
+no_other : (components : List Component) (k : ℕ) (d : Component) (w : ByteString) → list_any (λ (x : Component). same_text x.name w) components ≡ false → slice_get components k ≡ Some d → same_text d.name w ≡ false
 no_other [] k d w none at = cc
 no_other (x ∷ rest) zero d w none at =
     let same : x ≡ d = cc in
@@ -34,7 +34,7 @@ no_other (x ∷ rest) zero d w none at =
 no_other (x ∷ rest) (suc k) d w none at = no_other rest k d w (or_right (same_text x.name w) (list_any (λ (y : Component). same_text y.name w) rest) none) at
 
 -- texts that differ differ either way
-other_way : (v w : Word) → same_text w v ≡ false → same_text v w ≡ false
+other_way : (v w : ByteString) → same_text w v ≡ false → same_text v w ≡ false
 other_way v w other = go (same_text v w) refl
   where
     go : (b : Bool) → same_text v w ≡ b → b ≡ false
@@ -67,7 +67,7 @@ there_before (x ∷ rest) (suc j) (suc k) d l at = there_before rest j k d (omeg
 unshared : (h : Record) (plan : Plan) (i j : ℕ) (d : Component) → IsLegal h → in_force h ≡ Some plan → slice_get plan.components i ≡ Some d → j < i → same_text (name_of h j) (name_of h i) ≡ false
 unshared h plan i j d legal force at l =
     let (c, first) = there_before plan.components j i d l at in
-    ap (λ (w : Word). same_text w (name_of h i)) (named_as h plan j c legal force first) ∙ ap (same_text c.name) (named_as h plan i d legal force at)
+    ap (λ (w : ByteString). same_text w (name_of h i)) (named_as h plan j c legal force first) ∙ ap (same_text c.name) (named_as h plan i d legal force at)
     ∙ apart plan.components j i c d (in_force_accepted h plan legal force).named l first at
 
 -- so each instance that is there is an heir

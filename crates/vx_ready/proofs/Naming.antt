@@ -3,8 +3,8 @@ use Rattle.std.proofs.Common.{◌≡◌, ◌∙◌, inl, inr, ℕ, zero, suc, �
 use Rattle.std.specs.Prelude.{◌↔◌, map, not, nat_le, slice_get, if◌then◌else◌}
 use Rattle.std.proofs.lemmas.Bool.{cases_eq, or_from, or_left, or_right}
 use Rattle.std.proofs.lemmas.Bool.Decides.{nat_tests}
-use Rattle.vx_ends.specs.Told.{Told}
-use Rattle.vx_value.specs.Texts.{Word, is_empty}
+use Rattle.vx_ends.specs.Observation.{Observation}
+use Rattle.vx_value.specs.Texts.{ByteString, is_empty}
 use Rattle.vx_plan.specs.declared.class.Class.{Class}
 use Rattle.vx_plan.specs.declared.class.Class.TheVariants.{Source, Transform, Sink}
 use Rattle.vx_plan.specs.declared.component.Component.{Component}
@@ -13,7 +13,7 @@ use Rattle.vx_plan.specs.Components.{component_named, is_source, is_transform, p
 use Rattle.vx_plan.specs.Options.{has_device, transform_ports}
 use Rattle.vx_record.specs.Records.{Record}
 use Rattle.vx_record.specs.Copies.{contains, count, counting, joined}
-use Rattle.vx_record.specs.Installs.{Wiring, wiring, wired, told, source_at, is_marked}
+use Rattle.vx_record.specs.Installs.{Wiring, wiring, wired, component_or, source_at, is_marked}
 use Rattle.vx_record.specs.Judges.{is_judging}
 use Rattle.vx_tasks.specs.Joining.{is_joining}
 use Rattle.vx_record.specs.Lists.{waiting}
@@ -24,14 +24,14 @@ use Rattle.vx_record.proofs.Wired.{component_in_place}
 use Rattle.vx_record.proofs.Promises.{and_left, and_right}
 use Rattle.vx_places.specs.Looks.{HasWaiting}
 use Rattle.vx_places.proofs.Recorded.{awaits_is}
-use Rattle.vx_seats.specs.declared.seat.Seat.{Seat}
-use Rattle.vx_seats.specs.Knowing.{outlets_at, wired_outlets}
-use Rattle.vx_moves.specs.declared.books.Books.{Books}
+use Rattle.vx_instances.specs.declared.state.InstanceState.{InstanceState}
+use Rattle.vx_instances.specs.Knowing.{outlets_at, wired_outlets}
+use Rattle.vx_moves.specs.declared.engine.EngineState.{EngineState}
 use Rattle.vx_moves.specs.Stands.{Stands}
-use Rattle.vx_sourcecore.specs.Lines.{is_generating, is_swallowing}
+use Rattle.vx_sourcecore.specs.Lines.{is_generating, is_blackhole}
 use Rattle.vx_ready.specs.Asking.{source_class, transform_class, sink_class, is_among, goes_on, goes_to, has_few_ports, is_served, all_served, IsServed}
 use Rattle.vx_ready.proofs.Counting.{any_contains, counted}
-use Rattle.vx_ready.proofs.Knowing.{Runs, undraining, known, runs, seat_there}
+use Rattle.vx_ready.proofs.Knowing.{Runs, undraining, known, runs, state_there}
 use Rattle.vx_ready.proofs.Testing.{same_tests}
 
 -- WHAT IS SERVED
@@ -45,16 +45,16 @@ judge_tests : (device judging joining few : Bool) →
     ((device && false) || (judging && not device && few) || false || false || (joining && not device && few)) ≡ true → few ≡ true
 judge_tests device judging joining few is = grind arith
 
-served_tests : (class : Class) (device judging joining few generating swallowing : Bool) →
-    ((device && not (transform_class class)) || (transform_class class && judging && not device && few) || (source_class class && generating) || (sink_class class && swallowing)
+served_tests : (class : Class) (device judging joining few generating blackhole : Bool) →
+    ((device && not (transform_class class)) || (transform_class class && judging && not device && few) || (source_class class && generating) || (sink_class class && blackhole)
     || (transform_class class && joining && not device && few)) ≡ true →
     (not (transform_class class) || few) ≡ true
-served_tests Source device judging joining few generating swallowing is = refl
-served_tests Transform device judging joining few generating swallowing is = judge_tests device judging joining few is
-served_tests Sink device judging joining few generating swallowing is = refl
+served_tests Source device judging joining few generating blackhole is = refl
+served_tests Transform device judging joining few generating blackhole is = judge_tests device judging joining few is
+served_tests Sink device judging joining few generating blackhole is = refl
 
 served_so : (c : Component) → is_served c ≡ true → (not (is_transform c) || has_few_ports c) ≡ true
-served_so c = served_tests c.class (has_device c.settings) (is_judging c.settings) (is_joining c.settings) (has_few_ports c) (is_generating c.settings) (is_swallowing c.settings)
+served_so c = served_tests c.class (has_device c.settings) (is_judging c.settings) (is_joining c.settings) (has_few_ports c) (is_generating c.settings) (is_blackhole c.settings)
 
 -- TARGETS
 or_contains : (xs ys : List ℕ) (i : ℕ) → (contains xs i || contains ys i) ≡ contains (xs ++ ys) i
@@ -111,7 +111,7 @@ length_map : {X Y : Type 0} (f : X → Y) (xs : List X) → length (map f xs) �
 length_map f [] = refl
 length_map f (x ∷ xs) = ap suc (length_map f xs)
 
-abbrev ports_by : Class → Settings → List Word
+abbrev ports_by : Class → Settings → List ByteString
 ports_by class settings = elim class [ Source ↦ [] ∷ [] | Transform ↦ transform_ports settings | Sink ↦ [] ]
 
 few_by : (class : Class) (settings : Settings) → (not (transform_class class) || nat_le (length (ports_by class settings)) 65) ≡ true → length (ports_by class settings) ≤ 65
@@ -119,27 +119,27 @@ few_by Source settings few = omega arith
 few_by Transform settings few = grind (arith, nat_tests, few)
 few_by Sink settings few = omega arith
 
-module _ {P : Type 0} (told_by : P → Told) (books : Books P) (stands : Stands told_by books) (served : IsServed books) (j : ℕ) (seat : Seat P) (at : slice_get books.seats j ≡ Some seat) where
-  served_is : is_served (runs told_by books stands j seat at).component ≡ true
+module _ {P : Type 0} (observe : P → Observation) (engine : EngineState P) (stands : Stands observe engine) (served : IsServed engine) (j : ℕ) (state : InstanceState P) (at : slice_get engine.states j ≡ Some state) where
+  served_is : is_served (runs observe engine stands j state at).component ≡ true
   served_is =
-      let run = runs told_by books stands j seat at in
-      served_at books.run.plan.components j run.component served.served
-      (sym (component_in_place books.log books.run.plan j stands.legal stands.run.installed) ∙ run.there)
+      let run = runs observe engine stands j state at in
+      served_at engine.run.plan.components j run.component served.served
+      (sym (component_in_place engine.log engine.run.plan j stands.legal stands.run.installed) ∙ run.there)
 
   -- the ports on which an instance puts out are few
-  pub few_ports : length seat.outlet ≤ 65
+  pub few_ports : length state.outlet ≤ 65
   few_ports =
-      let run = runs told_by books stands j seat at in
-      let all : all_ports books.log j ≡ counting 0 (length (port_names run.component)) =
+      let run = runs observe engine stands j state at in
+      let all : all_ports engine.log j ≡ counting 0 (length (port_names run.component)) =
       ap (λ (o : Option Component). elim o [ None ↦ [] | Some c ↦ counting 0 (length (port_names c)) ]) run.there in
-      let many : length seat.outlet ≡ length (port_names run.component) =
-      ap length ((known told_by books stands j seat at).fitted.outlet ∙ outlets_are books.log j) ∙ length_map (λ port. wired [] (wired_targets port) books.log j) (all_ports books.log j)
+      let many : length state.outlet ≡ length (port_names run.component) =
+      ap length ((known observe engine stands j state at).fitted.outlet ∙ outlets_are engine.log j) ∙ length_map (λ port. wired [] (wired_targets port) engine.log j) (all_ports engine.log j)
       ∙ ap length all ∙ counted 0 (length (port_names run.component)) in
       let few = few_by run.component.class run.component.settings (served_so run.component served_is) in
       omega (arith, many, few)
 
-  pub sends_is : (i : ℕ) → (not (is_dry books.log j && is_sent books.log j) && goes_to i seat.outlet) ≡ contains (routes books.log j (all_ports books.log j)) i
-  sends_is i = sent_to books.log j i (is_dry books.log j && is_sent books.log j) seat.outlet (known told_by books stands j seat at).fitted.outlet
+  pub sends_is : (i : ℕ) → (not (is_dry engine.log j && is_sent engine.log j) && goes_to i state.outlet) ≡ contains (routes engine.log j (all_ports engine.log j)) i
+  sends_is i = sent_to engine.log j i (is_dry engine.log j && is_sent engine.log j) state.outlet (known observe engine stands j state at).fitted.outlet
 
 -- what two tests of an instance give, and a third
 pub of_two : (h : Record) (j : ℕ) (dry sent over named result : Bool) → dry ≡ is_dry h j → sent ≡ is_sent h j → over ≡ (dry && sent) → result ≡ (not over && named) →
@@ -148,14 +148,14 @@ of_two h j dry sent over named result dry_is sent_is over_is result_is =
     result_is ∙ ap (λ b. not b && named) (over_is ∙ ap (λ b. b && sent) dry_is ∙ ap (λ b. is_dry h j && b) sent_is)
 
 -- whether a child waits
-pub waits_is : {P : Type 0} (told_by : P → Told) (books : Books P) (j i : ℕ) (waits : Bool) → Stands told_by books → (waits ≡ true) ↔ HasWaiting books.places j i → waits ≡ not (is_empty (waiting books.log j i))
-waits_is told_by books j i waits stands says =
-    let law = awaits_is books.log books.places j i stands.legal stands.places in
-    let tests = filled_tests (waiting books.log j i) in
-    same_tests waits (not (is_empty (waiting books.log j i))) (λ e. tests.1 (law.0 (says.0 e)), λ e. says.1 (law.1 (tests.0 e)))
+pub waits_is : {P : Type 0} (observe : P → Observation) (engine : EngineState P) (j i : ℕ) (waits : Bool) → Stands observe engine → (waits ≡ true) ↔ HasWaiting engine.places j i → waits ≡ not (is_empty (waiting engine.log j i))
+waits_is observe engine j i waits stands says =
+    let law = awaits_is engine.log engine.places j i stands.legal stands.places in
+    let tests = filled_tests (waiting engine.log j i) in
+    same_tests waits (not (is_empty (waiting engine.log j i))) (λ e. tests.1 (law.0 (says.0 e)), λ e. says.1 (law.1 (tests.0 e)))
 
 -- whether nothing more comes
-worker_so : (h : Record) (i : ℕ) (class : Class) → Runs h i class → told false (λ (c : Component). not (is_source c)) h i ≡ not (source_at h i)
+worker_so : (h : Record) (i : ℕ) (class : Class) → Runs h i class → component_or false (λ (c : Component). not (is_source c)) h i ≡ not (source_at h i)
 worker_so h i class runs =
     ap (λ (o : Option Component). elim o [ None ↦ false | Some c ↦ not (is_source c) ]) runs.there
     ∙ sym (ap (λ (o : Option Component). not (elim o [ None ↦ false | Some c ↦ is_source c ])) runs.there)
@@ -164,17 +164,17 @@ without_drain : (drained all : Bool) → drained ≡ false → (drained || all) 
 without_drain true all e = cc
 without_drain false all e = refl
 
-ending_is : {P : Type 0} (told_by : P → Told) (books : Books P) (stands : Stands told_by books) (i : ℕ) (seat : Seat P) (at : slice_get books.seats i ≡ Some seat) (source dry named : Bool) →
-    source ≡ source_at books.log i → dry ≡ all_dry books.log → named ≡ is_named books.log i → (not source && dry && not named) ≡ is_ending books.log i
-ending_is told_by books stands i seat at source dry named source_is dry_is named_is =
-    let h = books.log in
+ending_is : {P : Type 0} (observe : P → Observation) (engine : EngineState P) (stands : Stands observe engine) (i : ℕ) (state : InstanceState P) (at : slice_get engine.states i ≡ Some state) (source dry named : Bool) →
+    source ≡ source_at engine.log i → dry ≡ all_dry engine.log → named ≡ is_named engine.log i → (not source && dry && not named) ≡ is_ending engine.log i
+ending_is observe engine stands i state at source dry named source_is dry_is named_is =
+    let h = engine.log in
     let undrained : drains h i ≡ false = undraining (source_at h i) (is_marked h i) (unmarked h i stands.legal) in
     ap (λ b. not b && dry && not named) source_is
-    ∙ ap (λ b. b && dry && not named) (sym (worker_so h i seat.class (runs told_by books stands i seat at)))
-    ∙ ap (λ b. told false (λ (c : Component). not (is_source c)) h i && b && not named) (dry_is ∙ sym (without_drain (drains h i) (all_dry h) undrained))
-    ∙ ap (λ b. told false (λ (c : Component). not (is_source c)) h i && (drains h i || all_dry h) && not b) named_is
+    ∙ ap (λ b. b && dry && not named) (sym (worker_so h i state.class (runs observe engine stands i state at)))
+    ∙ ap (λ b. component_or false (λ (c : Component). not (is_source c)) h i && b && not named) (dry_is ∙ sym (without_drain (drains h i) (all_dry h) undrained))
+    ∙ ap (λ b. component_or false (λ (c : Component). not (is_source c)) h i && (drains h i || all_dry h) && not b) named_is
 
-pub ending_there : {P : Type 0} (told_by : P → Told) (books : Books P) (stands : Stands told_by books) (i : ℕ) → i < length books.seats → (source dry named : Bool) →
-    source ≡ source_at books.log i → dry ≡ all_dry books.log → named ≡ is_named books.log i → (not source && dry && not named) ≡ is_ending books.log i
-ending_there told_by books stands i within source dry named source_is dry_is named_is =
-    let there = seat_there books.seats i within in ending_is told_by books stands i there.0 there.1 source dry named source_is dry_is named_is
+pub ending_there : {P : Type 0} (observe : P → Observation) (engine : EngineState P) (stands : Stands observe engine) (i : ℕ) → i < length engine.states → (source dry named : Bool) →
+    source ≡ source_at engine.log i → dry ≡ all_dry engine.log → named ≡ is_named engine.log i → (not source && dry && not named) ≡ is_ending engine.log i
+ending_there observe engine stands i within source dry named source_is dry_is named_is =
+    let there = state_there engine.states i within in ending_is observe engine stands i there.0 there.1 source dry named source_is dry_is named_is

@@ -3,7 +3,7 @@ use Rattle.std.proofs.Common.{◌≡◌, ◌∙◌, ℕ, ◌<◌, ◌≤◌, Boo
 use Rattle.std.specs.Prelude.{not, nat_le, slice_get, if◌then◌else◌}
 use Rattle.std.proofs.lemmas.Bool.{and_from as both, and_parts, and_right as second_off, or_left as first_on, or_right as second_on}
 use Rattle.std.proofs.lemmas.Bool.Decides.{nat_tests}
-use Rattle.vx_ends.specs.Told.{Told}
+use Rattle.vx_ends.specs.Observation.{Observation}
 use Rattle.vx_value.specs.Texts.{is_empty}
 use Rattle.vx_plan.specs.declared.class.Class.{Class}
 use Rattle.vx_plan.specs.declared.class.Class.TheVariants.{Source, Transform, Sink}
@@ -23,11 +23,11 @@ use Rattle.vx_record.specs.Shifts.{at}
 use Rattle.vx_record.specs.Transforms.{IsTickDue}
 use Rattle.vx_record.specs.SinkBatches.{is_batch_closed, retry_from}
 use Rattle.vx_record.proofs.Ceasing.{unabandoned}
-use Rattle.vx_seats.specs.declared.seat.Seat.{Seat}
+use Rattle.vx_instances.specs.declared.state.InstanceState.{InstanceState}
 use Rattle.vx_tasks.specs.Joining.{is_joining, joins_at}
 use Rattle.vx_tasks.specs.declared.work.Job.{Job}
 use Rattle.vx_tasks.specs.declared.work.Job.TheVariants as job
-use Rattle.vx_moves.specs.declared.books.Books.{Books}
+use Rattle.vx_moves.specs.declared.engine.EngineState.{EngineState}
 use Rattle.vx_moves.specs.Leasing.{IsFitAt}
 use Rattle.vx_moves.specs.Stands.{Stands}
 use Rattle.vx_ready.specs.Asking.{source_class, transform_class, sink_class, IsSettled, IsUsable, IsOpen}
@@ -35,7 +35,7 @@ use Rattle.vx_ready.specs.Jobs.{IsLeasable, IsSourceJob, IsTransformJob, IsSinkJ
 use Rattle.vx_ready.proofs.Closed.{closed_filled, not_empty}
 use Rattle.vx_ready.proofs.Done.{none_held}
 use Rattle.vx_ready.proofs.Emptied.{holds_none}
-use Rattle.vx_ready.proofs.Knowing.{Runs, known, runs, source_is, transform_is, sink_is, home, going, at_home, owes_none, seat_there}
+use Rattle.vx_ready.proofs.Knowing.{Runs, known, runs, source_is, transform_is, sink_is, unleased, going, unleased_there, owes_none, state_there}
 
 -- TESTS
 after_two : (a b c : Bool) → a ≡ true → b ≡ false → c ≡ (a && not b && c)
@@ -107,105 +107,105 @@ transform_of Source is = cc
 transform_of Transform is = refl
 transform_of Sink is = cc
 
--- an instance is what the class of its seat is
-module _ {P : Type 0} (told_by : P → Told) (books : Books P) (stands : Stands told_by books) (i : ℕ) (seat : Seat P) (there : slice_get books.seats i ≡ Some seat) where
-  pub source_so : seat.class ≡ Source → source_at books.log i ≡ true
-  source_so is = sym (source_is told_by books stands i seat there) ∙ ap source_class is
+-- an instance is what the class of its state is
+module _ {P : Type 0} (observe : P → Observation) (engine : EngineState P) (stands : Stands observe engine) (i : ℕ) (state : InstanceState P) (there : slice_get engine.states i ≡ Some state) where
+  pub source_so : state.class ≡ Source → source_at engine.log i ≡ true
+  source_so is = sym (source_is observe engine stands i state there) ∙ ap source_class is
 
-  pub transform_so : seat.class ≡ Transform → transform_at books.log i ≡ true
-  transform_so is = sym (transform_is told_by books stands i seat there) ∙ ap transform_class is
+  pub transform_so : state.class ≡ Transform → transform_at engine.log i ≡ true
+  transform_so is = sym (transform_is observe engine stands i state there) ∙ ap transform_class is
 
-  pub sink_so : seat.class ≡ Sink → sink_at books.log i ≡ true
-  sink_so is = sym (sink_is told_by books stands i seat there) ∙ ap sink_class is
+  pub sink_so : state.class ≡ Sink → sink_at engine.log i ≡ true
+  sink_so is = sym (sink_is observe engine stands i state there) ∙ ap sink_class is
 
-module _ {P : Type 0} (told_by : P → Told) (books : Books P) (stands : Stands told_by books) (i : ℕ) (seat : Seat P) (there : slice_get books.seats i ≡ Some seat) (settled : IsSettled books i) (open_at : IsOpen books i) where
-  usable : IsUsable seat
-  usable = subst (λ (o : Option (Seat P)). IsSomeAnd o IsUsable) there open_at
+module _ {P : Type 0} (observe : P → Observation) (engine : EngineState P) (stands : Stands observe engine) (i : ℕ) (state : InstanceState P) (there : slice_get engine.states i ≡ Some state) (settled : IsSettled engine i) (open_at : IsOpen engine i) where
+  usable : IsUsable state
+  usable = subst (λ (o : Option (InstanceState P)). IsSomeAnd o IsUsable) there open_at
 
-  close_is : device_at books.log i ≡ true → is_done books.log i ≡ is_close_due books.log i
+  close_is : device_at engine.log i ≡ true → is_done engine.log i ≡ is_close_due engine.log i
   close_is device =
-      after_two (device_at books.log i) (is_closed books.log i) (is_done books.log i) device
-      (sym (known told_by books stands i seat there).facts.closed ∙ usable.unclosed)
+      after_two (device_at engine.log i) (is_closed engine.log i) (is_done engine.log i) device
+      (sym (known observe engine stands i state there).facts.closed ∙ usable.unclosed)
 
-  fit_there : IsFitAt books.seats i
+  fit_there : IsFitAt engine.states i
   fit_there = record {
-    fed = subst (λ (o : Option (Seat P)). IfSome o (λ s. s.facts.starved ≡ false)) (sym there) usable.fed;
-    settled = subst (λ (o : Option (Seat P)). IfSome o (λ s. s.facts.owing ≡ false)) (sym there) (home told_by books stands i seat there settled).1.1;
+    fed = subst (λ (o : Option (InstanceState P)). IfSome o (λ s. s.facts.starved ≡ false)) (sym there) usable.fed;
+    settled = subst (λ (o : Option (InstanceState P)). IfSome o (λ s. s.facts.owing ≡ false)) (sym there) (unleased observe engine stands i state there settled).1.1;
   }
 
-  leasable_by : (now : ℕ) → IsReady books.log i now → IsLeasable books i now
+  leasable_by : (now : ℕ) → IsReady engine.log i now → IsLeasable engine i now
   leasable_by now ready = record {
     may = λ worker later. record {
-      home = (at_home told_by books stands i seat there settled).1.home;
-      unretired = sym (known told_by books stands i seat there).facts.retired ∙ usable.unretired;
-      settled = owes_none told_by books stands i seat there settled;
+      unleased = (unleased_there observe engine stands i state there settled).1.unleased;
+      unretired = sym (known observe engine stands i state there).facts.retired ∙ usable.unretired;
+      settled = owes_none observe engine stands i state there settled;
       ready = ready;
       later = later;
       unpolled = refl;
     };
-    going = unabandoned books.log (going told_by books stands i seat there settled);
+    going = unabandoned engine.log (going observe engine stands i state there settled);
     fit = fit_there;
   }
 
-  leasable : (now : ℕ) → is_ready books.log i now ≡ true → IsLeasable books i now
+  leasable : (now : ℕ) → is_ready engine.log i now ≡ true → IsLeasable engine i now
   leasable now ready = leasable_by now (inl ready)
 
-  runs_as : (class : Class) → seat.class ≡ class → Runs books.log i class
-  runs_as class is = subst (Runs books.log i) is (runs told_by books stands i seat there)
+  runs_as : (class : Class) → state.class ≡ class → Runs engine.log i class
+  runs_as class is = subst (Runs engine.log i) is (runs observe engine stands i state there)
 
-  pub source_leased : (now : ℕ) (work : Job) → seat.class ≡ Source → IsSourceJob books.log i now work → IsLeasable books i now
-  source_leased now work is does = leasable now (source_ready books.log i now (runs_as Source is) ∙ source_job_ready books.log i now work does)
+  pub source_leased : (now : ℕ) (work : Job) → state.class ≡ Source → IsSourceJob engine.log i now work → IsLeasable engine i now
+  source_leased now work is does = leasable now (source_ready engine.log i now (runs_as Source is) ∙ source_job_ready engine.log i now work does)
 
-  pub transform_leased : (now : ℕ) (work : Job) → seat.class ≡ Transform → IsTransformJob books.log i work → IsLeasable books i now
-  transform_leased now work is does = leasable now (transform_ready books.log i now (runs_as Transform is) ∙ transform_job_ready books.log i work does)
+  pub transform_leased : (now : ℕ) (work : Job) → state.class ≡ Transform → IsTransformJob engine.log i work → IsLeasable engine i now
+  transform_leased now work is does = leasable now (transform_ready engine.log i now (runs_as Transform is) ∙ transform_job_ready engine.log i work does)
 
-  pub sink_leased : (now : ℕ) (work : Job) → seat.class ≡ Sink → IsSinkJob books.log i now work → IsLeasable books i now
-  sink_leased now work is does = leasable now (sink_ready books.log i now (runs_as Sink is) ∙ sink_job_ready books.log i now work does)
+  pub sink_leased : (now : ℕ) (work : Job) → state.class ≡ Sink → IsSinkJob engine.log i now work → IsLeasable engine i now
+  sink_leased now work is does = leasable now (sink_ready engine.log i now (runs_as Sink is) ∙ sink_job_ready engine.log i now work does)
 
-  pub source_none : (now : ℕ) → seat.class ≡ Source → is_source_ready books.log i now ≡ false → is_ready books.log i now ≡ false
-  source_none now is none = source_ready books.log i now (runs_as Source is) ∙ none
+  pub source_none : (now : ℕ) → state.class ≡ Source → is_source_ready engine.log i now ≡ false → is_ready engine.log i now ≡ false
+  source_none now is none = source_ready engine.log i now (runs_as Source is) ∙ none
 
-  pub transform_none : (now : ℕ) → seat.class ≡ Transform → is_transform_ready books.log i ≡ false → is_ready books.log i now ≡ false
-  transform_none now is none = transform_ready books.log i now (runs_as Transform is) ∙ none
+  pub transform_none : (now : ℕ) → state.class ≡ Transform → is_transform_ready engine.log i ≡ false → is_ready engine.log i now ≡ false
+  transform_none now is none = transform_ready engine.log i now (runs_as Transform is) ∙ none
 
-  pub sink_none : (now : ℕ) → seat.class ≡ Sink → is_sink_ready books.log i now ≡ false → is_ready books.log i now ≡ false
-  sink_none now is none = sink_ready books.log i now (runs_as Sink is) ∙ none
+  pub sink_none : (now : ℕ) → state.class ≡ Sink → is_sink_ready engine.log i now ≡ false → is_ready engine.log i now ≡ false
+  sink_none now is none = sink_ready engine.log i now (runs_as Sink is) ∙ none
 
-  pub source_works : (now : ℕ) (work : Job) → seat.class ≡ Source → IsSourceJob books.log i now work → IsJob books.log i now work
-  source_works now work is does = inl (source_so told_by books stands i seat there is, does)
+  pub source_works : (now : ℕ) (work : Job) → state.class ≡ Source → IsSourceJob engine.log i now work → IsJob engine.log i now work
+  source_works now work is does = inl (source_so observe engine stands i state there is, does)
 
-  pub transform_works : (now : ℕ) (work : Job) → seat.class ≡ Transform → IsTransformJob books.log i work → IsJob books.log i now work
-  transform_works now work is does = inr (inl (transform_so told_by books stands i seat there is, does))
+  pub transform_works : (now : ℕ) (work : Job) → state.class ≡ Transform → IsTransformJob engine.log i work → IsJob engine.log i now work
+  transform_works now work is does = inr (inl (transform_so observe engine stands i state there is, does))
 
   -- one that merges is a transform
-  joins_class : joins_at books.log i ≡ true → seat.class ≡ Transform
-  joins_class joins = transform_of seat.class (transform_is told_by books stands i seat there ∙ joins_transform books.log i joins)
+  joins_class : joins_at engine.log i ≡ true → state.class ≡ Transform
+  joins_class joins = transform_of state.class (transform_is observe engine stands i state there ∙ joins_transform engine.log i joins)
 
-  merge_leased : (now : ℕ) → joins_at books.log i ≡ true → is_sent books.log i ≡ true →
-      ((not (is_empty (buffered books.log i)) || is_flush_due books.log i) ≡ true) ⊎ IsTickDue books.log i now → IsLeasable books i now
+  merge_leased : (now : ℕ) → joins_at engine.log i ≡ true → is_sent engine.log i ≡ true →
+      ((not (is_empty (buffered engine.log i)) || is_flush_due engine.log i) ≡ true) ⊎ IsTickDue engine.log i now → IsLeasable engine i now
   merge_leased now joins sent (inl some) =
-      leasable now (transform_ready books.log i now (runs_as Transform (joins_class joins))
-      ∙ both (is_sent books.log i) (not (is_empty (buffered books.log i)) || is_flush_due books.log i) sent some)
+      leasable now (transform_ready engine.log i now (runs_as Transform (joins_class joins))
+      ∙ both (is_sent engine.log i) (not (is_empty (buffered engine.log i)) || is_flush_due engine.log i) sent some)
   merge_leased now joins sent (inr due) = leasable_by now (inr (record { sent = sent; due = due }))
 
-  merge_unready : (now : ℕ) → joins_at books.log i ≡ true → is_transform_ready books.log i ≡ false → is_ready books.log i now ≡ false
-  merge_unready now joins none = transform_ready books.log i now (runs_as Transform (joins_class joins)) ∙ none
+  merge_unready : (now : ℕ) → joins_at engine.log i ≡ true → is_transform_ready engine.log i ≡ false → is_ready engine.log i now ≡ false
+  merge_unready now joins none = transform_ready engine.log i now (runs_as Transform (joins_class joins)) ∙ none
 
-  pub sink_works : (now : ℕ) (work : Job) → seat.class ≡ Sink → IsSinkJob books.log i now work → IsJob books.log i now work
-  sink_works now work is does = inr (inr (sink_so told_by books stands i seat there is, does))
+  pub sink_works : (now : ℕ) (work : Job) → state.class ≡ Sink → IsSinkJob engine.log i now work → IsJob engine.log i now work
+  sink_works now work is does = inr (inr (sink_so observe engine stands i state there is, does))
 
-pub close_there : {P : Type 0} (told_by : P → Told) (books : Books P) (stands : Stands told_by books) (i : ℕ) → i < length books.seats → IsSettled books i → IsOpen books i → device_at books.log i ≡ true → is_done books.log i ≡ is_close_due books.log i
-close_there told_by books stands i within settled open_at = let there = seat_there books.seats i within in close_is told_by books stands i there.0 there.1 settled open_at
+pub close_there : {P : Type 0} (observe : P → Observation) (engine : EngineState P) (stands : Stands observe engine) (i : ℕ) → i < length engine.states → IsSettled engine i → IsOpen engine i → device_at engine.log i ≡ true → is_done engine.log i ≡ is_close_due engine.log i
+close_there observe engine stands i within settled open_at = let there = state_there engine.states i within in close_is observe engine stands i there.0 there.1 settled open_at
 
 -- WHO MERGES
-pub merge_there : {P : Type 0} (told_by : P → Told) (books : Books P) (stands : Stands told_by books) (i : ℕ) → i < length books.seats → IsSettled books i → IsOpen books i →
-    (now : ℕ) → joins_at books.log i ≡ true → is_sent books.log i ≡ true →
-    ((not (is_empty (buffered books.log i)) || is_flush_due books.log i) ≡ true) ⊎ IsTickDue books.log i now → IsLeasable books i now
-merge_there told_by books stands i within settled open_at = let there = seat_there books.seats i within in merge_leased told_by books stands i there.0 there.1 settled open_at
+pub merge_there : {P : Type 0} (observe : P → Observation) (engine : EngineState P) (stands : Stands observe engine) (i : ℕ) → i < length engine.states → IsSettled engine i → IsOpen engine i →
+    (now : ℕ) → joins_at engine.log i ≡ true → is_sent engine.log i ≡ true →
+    ((not (is_empty (buffered engine.log i)) || is_flush_due engine.log i) ≡ true) ⊎ IsTickDue engine.log i now → IsLeasable engine i now
+merge_there observe engine stands i within settled open_at = let there = state_there engine.states i within in merge_leased observe engine stands i there.0 there.1 settled open_at
 
-pub unready_there : {P : Type 0} (told_by : P → Told) (books : Books P) (stands : Stands told_by books) (i : ℕ) → i < length books.seats → IsSettled books i → IsOpen books i →
-    (now : ℕ) → joins_at books.log i ≡ true → is_transform_ready books.log i ≡ false → is_ready books.log i now ≡ false
-unready_there told_by books stands i within settled open_at = let there = seat_there books.seats i within in merge_unready told_by books stands i there.0 there.1 settled open_at
+pub unready_there : {P : Type 0} (observe : P → Observation) (engine : EngineState P) (stands : Stands observe engine) (i : ℕ) → i < length engine.states → IsSettled engine i → IsOpen engine i →
+    (now : ℕ) → joins_at engine.log i ≡ true → is_transform_ready engine.log i ≡ false → is_ready engine.log i now ≡ false
+unready_there observe engine stands i within settled open_at = let there = state_there engine.states i within in merge_unready observe engine stands i there.0 there.1 settled open_at
 
 -- where nothing is buffered, and it isn't to be flushed, it has no work but a tick
 pub no_inputs : (h : Record) (i : ℕ) → (not (is_empty (buffered h i)) || is_flush_due h i) ≡ false → is_transform_ready h i ≡ false
@@ -248,12 +248,12 @@ close_never h i off = sym (ap (λ b. b && not (is_closed h i) && is_done h i) of
 pub unsent_there : (h : Record) (i : ℕ) → is_sent h i ≡ false → is_transform_ready h i ≡ false
 unsent_there h i is = ap (λ b. b && (not (is_empty (buffered h i)) || is_flush_due h i)) is
 
-pub idle_there : {P : Type 0} (told_by : P → Told) (books : Books P) (stands : Stands told_by books) (i : ℕ) → i < length books.seats → IsSettled books i → transform_at books.log i ≡ true → joins_at books.log i ≡ false →
-    is_empty (buffered books.log i) ≡ true → is_transform_ready books.log i ≡ false
-idle_there told_by books stands i within settled transform alone empty =
-    let h = books.log in
-    let there = seat_there books.seats i within in
-    let bare : held h i ≡ [] = holds_none h i stands.legal (unabandoned h (going told_by books stands i there.0 there.1 settled)) transform (stands.run.judging i transform alone) (owes_none told_by books stands i there.0 there.1 settled) in
+pub idle_there : {P : Type 0} (observe : P → Observation) (engine : EngineState P) (stands : Stands observe engine) (i : ℕ) → i < length engine.states → IsSettled engine i → transform_at engine.log i ≡ true → joins_at engine.log i ≡ false →
+    is_empty (buffered engine.log i) ≡ true → is_transform_ready engine.log i ≡ false
+idle_there observe engine stands i within settled transform alone empty =
+    let h = engine.log in
+    let there = state_there engine.states i within in
+    let bare : held h i ≡ [] = holds_none h i stands.legal (unabandoned h (going observe engine stands i there.0 there.1 settled)) transform (stands.run.judging i transform alone) (owes_none observe engine stands i there.0 there.1 settled) in
     nothing_due (is_sent h i) (is_ending h i) (is_empty (buffered h i)) (is_empty (held h i)) empty (ap (λ (qs : List (List ℕ)). is_empty qs) bare)
 
 -- a moment that has come, and one that hasn't
@@ -312,15 +312,15 @@ class_waits h i class = elim class [ Source ↦ source_waits h i | Transform ↦
 until_is : (h : Record) (i : ℕ) (class : Class) → Runs h i class → class_waits h i class ≡ waits_until h i
 until_is h i class runs = ap (class_waits h i) runs.class_is ∙ sym (ap (until_by h i) runs.there)
 
-module _ {P : Type 0} (told_by : P → Told) (books : Books P) (stands : Stands told_by books) (i : ℕ) (seat : Seat P) (there : slice_get books.seats i ≡ Some seat) where
-  class_until : (class : Class) → seat.class ≡ class → class_waits books.log i class ≡ waits_until books.log i
-  class_until class is = until_is books.log i class (subst (Runs books.log i) is (runs told_by books stands i seat there))
+module _ {P : Type 0} (observe : P → Observation) (engine : EngineState P) (stands : Stands observe engine) (i : ℕ) (state : InstanceState P) (there : slice_get engine.states i ≡ Some state) where
+  class_until : (class : Class) → state.class ≡ class → class_waits engine.log i class ≡ waits_until engine.log i
+  class_until class is = until_is engine.log i class (subst (Runs engine.log i) is (runs observe engine stands i state there))
 
-  pub source_until : seat.class ≡ Source → source_waits books.log i ≡ waits_until books.log i
+  pub source_until : state.class ≡ Source → source_waits engine.log i ≡ waits_until engine.log i
   source_until is = class_until Source is
 
-  pub transform_until : seat.class ≡ Transform → None ≡ waits_until books.log i
+  pub transform_until : state.class ≡ Transform → None ≡ waits_until engine.log i
   transform_until is = class_until Transform is
 
-  pub sink_until : seat.class ≡ Sink → sink_waits books.log i ≡ waits_until books.log i
+  pub sink_until : state.class ≡ Sink → sink_waits engine.log i ≡ waits_until engine.log i
   sink_until is = class_until Sink is

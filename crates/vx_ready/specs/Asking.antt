@@ -1,4 +1,4 @@
--- What the looks need of the books.
+-- What the looks need of the engine's state.
 use Rattle.std.specs.Prelude.{◌≡◌, ℕ, ◌<◌, ◌^◌, ◌==◌, Bool, true, false, ◌&&◌, ◌||◌, not, nat_le, List, [], ◌∷◌, length, Some, None, IsSome, IsSomeAnd, slice_get}
 use Rattle.std.specs.List.{list_any}
 use Rattle.vx_plan.specs.declared.class.Class.{Class}
@@ -7,10 +7,10 @@ use Rattle.vx_plan.specs.declared.component.Component.{Component}
 use Rattle.vx_plan.specs.Components.{is_source, is_transform, is_sink, port_names}
 use Rattle.vx_plan.specs.Options.{has_device}
 use Rattle.vx_record.specs.Judges.{is_judging}
-use Rattle.vx_sourcecore.specs.Lines.{is_generating, is_swallowing}
+use Rattle.vx_sourcecore.specs.Lines.{is_generating, is_blackhole}
 use Rattle.vx_tasks.specs.Joining.{is_joining}
-use Rattle.vx_seats.specs.declared.seat.Seat.{Seat}
-use Rattle.vx_moves.specs.declared.books.Books.{Books}
+use Rattle.vx_instances.specs.declared.state.InstanceState.{InstanceState}
+use Rattle.vx_moves.specs.declared.engine.EngineState.{EngineState}
 
 -- whether a class is that of sources
 abbrev pub source_class : Class → Bool
@@ -57,12 +57,12 @@ abbrev pub is_generator : Component → Bool
 is_generator c = is_source c && is_generating c.settings
 
 -- whether it is a sink that writes nothing
-abbrev pub is_hole : Component → Bool
-is_hole c = is_sink c && is_swallowing c.settings
+abbrev pub is_blackhole_sink : Component → Bool
+is_blackhole_sink c = is_sink c && is_blackhole c.settings
 
 -- whether it is one of these
 abbrev pub is_served : Component → Bool
-is_served c = is_ported c || is_judge c || is_generator c || is_hole c || is_merger c
+is_served c = is_ported c || is_judge c || is_generator c || is_blackhole_sink c || is_merger c
 
 -- whether each of some is
 abbrev pub all_served : List Component → Bool
@@ -71,26 +71,26 @@ all_served (c ∷ rest) = is_served c && all_served rest
 
 -- each component of the plan works with a port, judges event by event, merges, makes its lines itself or writes nothing, and
 -- there are fewer than 2^32 instances
-pub record IsServed {P : Type 0} (books : Books P) : Type 0 where
-  pub served : all_served books.run.plan.components ≡ true
-  pub few : length books.seats < 2 ^ 32
+pub record IsServed {P : Type 0} (engine : EngineState P) : Type 0 where
+  pub served : all_served engine.run.plan.components ≡ true
+  pub few : length engine.states < 2 ^ 32
 
--- a seat whose task is at home, where memory was never wanting for what it owes
-pub record IsHome {P : Type 0} (seat : Seat P) : Type 0 where
-  pub task : IsSome seat.task
-  pub settled : seat.facts.owing ≡ false
+-- a state whose task is unleased, where memory was never wanting for what it owes
+pub record IsUnleased {P : Type 0} (state : InstanceState P) : Type 0 where
+  pub task : IsSome state.task
+  pub settled : state.facts.owing ≡ false
 
--- an instance is at home and owes nothing, in a run that wasn't given up
-pub record IsSettled {P : Type 0} (books : Books P) (i : ℕ) : Type 0 where
-  pub home : IsSomeAnd (slice_get books.seats i) IsHome
-  pub going : books.run.abandoned ≡ None
+-- an instance is unleased and owes nothing, in a run that wasn't given up
+pub record IsSettled {P : Type 0} (engine : EngineState P) (i : ℕ) : Type 0 where
+  pub unleased : IsSomeAnd (slice_get engine.states i) IsUnleased
+  pub going : engine.run.abandoned ≡ None
 
--- the port of a seat isn't closed for good, nor may it have given more than the record has, and its instance hasn't ended
-pub record IsUsable {P : Type 0} (seat : Seat P) : Type 0 where
-  pub unclosed : seat.facts.closed ≡ false
-  pub unretired : seat.facts.retired ≡ false
-  pub fed : seat.facts.starved ≡ false
+-- the port of a state isn't closed for good, nor may it have given more than the record has, and its instance hasn't ended
+pub record IsUsable {P : Type 0} (state : InstanceState P) : Type 0 where
+  pub unclosed : state.facts.closed ≡ false
+  pub unretired : state.facts.retired ≡ false
+  pub fed : state.facts.starved ≡ false
 
 -- so it is of an instance
-abbrev pub IsOpen : {P : Type 0} → Books P → ℕ → Type 0
-IsOpen books i = IsSomeAnd (slice_get books.seats i) IsUsable
+abbrev pub IsOpen : {P : Type 0} → EngineState P → ℕ → Type 0
+IsOpen engine i = IsSomeAnd (slice_get engine.states i) IsUsable

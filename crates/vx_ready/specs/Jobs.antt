@@ -11,18 +11,18 @@ use Rattle.vx_value.specs.Texts.{is_empty}
 use Rattle.vx_record.specs.Ready.{can_read, is_close_due, is_attempt_due, can_take}
 use Rattle.vx_record.specs.Starting.{MayLease}
 use Rattle.vx_record.specs.Turns.{worker_now}
-use Rattle.vx_moves.specs.declared.books.Books.{Books}
+use Rattle.vx_moves.specs.declared.engine.EngineState.{EngineState}
 use Rattle.vx_moves.specs.Leasing.{IsFitAt}
-use Rattle.vx_seats.specs.declared.facts.Batching.{Batching}
+use Rattle.vx_instances.specs.declared.facts.Batching.{Batching}
 use Rattle.vx_sinkcore.specs.declared.schedule.Schedule.{Schedule}
 use Rattle.vx_tasks.specs.declared.work.Job.{Job}
 use Rattle.vx_tasks.specs.declared.work.Job.TheVariants.{Read, Confirm, Collect, Attempt, Judge, Close}
 
 -- all that a lease at a moment needs
-pub record IsLeasable {P : Type 0} (books : Books P) (i now : ℕ) : Type 0 where
-  pub may : (worker : ℕ) → worker_now books.log worker ≤ now → MayLease books.log i worker now 0
-  pub going : abandoned books.log ≡ false
-  pub fit : IsFitAt books.seats i
+pub record IsLeasable {P : Type 0} (engine : EngineState P) (i now : ℕ) : Type 0 where
+  pub may : (worker : ℕ) → worker_now engine.log worker ≤ now → MayLease engine.log i worker now 0
+  pub going : abandoned engine.log ≡ false
+  pub fit : IsFitAt engine.states i
 
 -- so many parcels are as many as a batch may have, or the oldest of them has waited long enough
 abbrev pub is_full_or_old : Option Batching → ℕ → ℕ → ℕ → Bool

@@ -12,42 +12,42 @@ use crate::ending::is_ending;
 use crate::finishing::{count_held, is_unbuffered};
 use crate::sources::either;
 use vx_ends::Port;
-use vx_moves::Books;
-use vx_seats::Batching;
+use vx_instances::Batching;
+use vx_moves::EngineState;
 use vx_sinkcore::Schedule;
 
-/// Whether the batch that a sink at home holds is closed at a moment, in milliseconds: it holds a parcel, and as many as a batch may
-/// have, or the oldest has waited long enough, or none can follow, or an attempt of it failed.
-pub fn is_batch_closed<P: Port>(books: &Books<P>, i: u32, now: u64) -> bool
-    requires stands { Stands P.told books.now }
-    requires within { i < length books.now.seats }
-    requires served { IsServed books.now }
-    requires settled { IsSettled books.now i }
-    requires sink { sink_at books.now.log i ≡ true }
-    ensures { result ≡ is_batch_closed_at books.now.log i now }
+/// Whether the batch that an unleased sink holds is closed at a moment, in milliseconds: it holds a parcel, and as many as a batch
+/// may have, or the oldest has waited long enough, or none can follow, or an attempt of it failed.
+pub fn is_batch_closed<P: Port>(engine: &EngineState<P>, i: u32, now: u64) -> bool
+    requires stands { Stands P.observed engine.now }
+    requires within { i < length engine.now.states }
+    requires served { IsServed engine.now }
+    requires settled { IsSettled engine.now i }
+    requires sink { sink_at engine.now.log i ≡ true }
+    ensures { result ≡ is_batch_closed_at engine.now.log i now }
 {
-    let held = count_held(books, i);
-    let seat = books.seats.get(i);
-    let full = is_full_or_old(seat.batching, seat.facts.since, held, now);
-    let due = either(full, failed_before(seat.facts.failures));
+    let held = count_held(engine, i);
+    let state = engine.states.get(i);
+    let full = is_full_or_old(state.batching, state.facts.since, held, now);
+    let due = either(full, failed_before(state.facts.failures));
     if held == 0 {
         return false;
     }
-    due || is_last(books, i)
+    due || is_last(engine, i)
 }
 
-/// The moment from which on the batch that a sink at home holds may be attempted, in milliseconds: any, until an attempt of it fails.
-pub fn retry_from<P: Port>(books: &Books<P>, i: u32) -> u64
-    requires stands { Stands P.told books.now }
-    requires within { i < length books.now.seats }
-    requires settled { IsSettled books.now i }
-    requires sink { sink_at books.now.log i ≡ true }
-    requires filled { 0 < length (held books.now.log i) }
-    ensures { result ≡ retry_from_at books.now.log i }
+/// The moment from which on the batch that an unleased sink holds may be attempted, in milliseconds: any, until an attempt of it fails.
+pub fn retry_from<P: Port>(engine: &EngineState<P>, i: u32) -> u64
+    requires stands { Stands P.observed engine.now }
+    requires within { i < length engine.now.states }
+    requires settled { IsSettled engine.now i }
+    requires sink { sink_at engine.now.log i ≡ true }
+    requires filled { 0 < length (held engine.now.log i) }
+    ensures { result ≡ retry_from_at engine.now.log i }
 {
-    let seat = books.seats.get(i);
-    let schedule = schedule_of(seat.batching);
-    retry_moment(schedule, seat.facts.failures, seat.facts.failed_at)
+    let state = engine.states.get(i);
+    let schedule = schedule_of(state.batching);
+    retry_moment(schedule, state.facts.failures, state.facts.failed_at)
 }
 
 /// How a sink makes its attempts again. Without a batch it makes none.
@@ -95,11 +95,11 @@ fn is_full_or_old(batching: Option<Batching>, since: u64, held: usize, now: u64)
 }
 
 /// Whether no parcel can follow those that an instance holds.
-pub(crate) fn is_last<P: Port>(books: &Books<P>, i: u32) -> bool
-    requires stands { Stands P.told books.now }
-    requires within { i < length books.now.seats }
-    requires served { IsServed books.now }
-    ensures { result ≡ is_last_batch books.now.log i }
+pub(crate) fn is_last<P: Port>(engine: &EngineState<P>, i: u32) -> bool
+    requires stands { Stands P.observed engine.now }
+    requires within { i < length engine.now.states }
+    requires served { IsServed engine.now }
+    ensures { result ≡ is_last_batch engine.now.log i }
 {
-    is_unbuffered(books, i) && is_ending(books, i)
+    is_unbuffered(engine, i) && is_ending(engine, i)
 }

@@ -11,34 +11,34 @@ ghost use Rattle.vx_ready.specs.Asking.{IsServed, goes_on, goes_to, is_among as 
 use crate::sources::{both, is_dry, is_sent, is_source};
 use vx_ends::Port;
 use vx_ledger::Outlet;
-use vx_moves::Books;
+use vx_moves::EngineState;
 use vx_value::NumberList;
 
 /// Whether an instance is a transform or a sink that nothing more can reach: every source is dry, and no instance that hasn't ended
 /// sends to it or has a child that waits for it.
-pub fn is_ending<P: Port>(books: &Books<P>, i: u32) -> bool
-    requires stands { Stands P.told books.now }
-    requires within { i < length books.now.seats }
-    requires served { IsServed books.now }
-    ensures { result ≡ is_ending_at books.now.log i }
+pub fn is_ending<P: Port>(engine: &EngineState<P>, i: u32) -> bool
+    requires stands { Stands P.observed engine.now }
+    requires within { i < length engine.now.states }
+    requires served { IsServed engine.now }
+    ensures { result ≡ is_ending_at engine.now.log i }
 {
-    if is_source(books, i) {
+    if is_source(engine, i) {
         return false;
     }
-    if !are_all_dry(books) {
+    if !are_all_dry(engine) {
         return false;
     }
-    !is_named(books, i)
+    !is_named(engine, i)
 }
 
 /// Whether every source is dry.
-fn are_all_dry<P: Port>(books: &Books<P>) -> bool
-    requires stands { Stands P.told books.now }
-    requires served { IsServed books.now }
-    ensures { result ≡ all_dry books.now.log }
+fn are_all_dry<P: Port>(engine: &EngineState<P>) -> bool
+    requires stands { Stands P.observed engine.now }
+    requires served { IsServed engine.now }
+    ensures { result ≡ all_dry engine.now.log }
 {
-    for j in 0..books.seats.len() as u32 {
-        if gives(books, j) {
+    for j in 0..engine.states.len() as u32 {
+        if gives(engine, j) {
             return false;
         }
     }
@@ -46,22 +46,22 @@ fn are_all_dry<P: Port>(books: &Books<P>) -> bool
 }
 
 /// Whether an instance is a source that isn't dry.
-fn gives<P: Port>(books: &Books<P>, j: u32) -> bool
-    requires stands { Stands P.told books.now }
-    requires within { j < length books.now.seats }
-    ensures { result ≡ (source_at books.now.log j && not (is_dry_at books.now.log j)) }
+fn gives<P: Port>(engine: &EngineState<P>, j: u32) -> bool
+    requires stands { Stands P.observed engine.now }
+    requires within { j < length engine.now.states }
+    ensures { result ≡ (source_at engine.now.log j && not (is_dry_at engine.now.log j)) }
 {
-    is_source(books, j) && !is_dry(books, j)
+    is_source(engine, j) && !is_dry(engine, j)
 }
 
 /// Whether an instance that hasn't ended can still send to another one.
-fn is_named<P: Port>(books: &Books<P>, i: u32) -> bool
-    requires stands { Stands P.told books.now }
-    requires served { IsServed books.now }
-    ensures { result ≡ is_named_at books.now.log i }
+fn is_named<P: Port>(engine: &EngineState<P>, i: u32) -> bool
+    requires stands { Stands P.observed engine.now }
+    requires served { IsServed engine.now }
+    ensures { result ≡ is_named_at engine.now.log i }
 {
-    for j in 0..books.seats.len() as u32 {
-        if may_send(books, j, i) {
+    for j in 0..engine.states.len() as u32 {
+        if may_send(engine, j, i) {
             return true;
         }
     }
@@ -69,42 +69,42 @@ fn is_named<P: Port>(books: &Books<P>, i: u32) -> bool
 }
 
 /// Whether it can, of one.
-fn may_send<P: Port>(books: &Books<P>, j: u32, i: u32) -> bool
-    requires stands { Stands P.told books.now }
-    requires within { j < length books.now.seats }
-    requires served { IsServed books.now }
-    ensures { result ≡ (not (is_retired books.now.log j) && names_at books.now.log j i) }
+fn may_send<P: Port>(engine: &EngineState<P>, j: u32, i: u32) -> bool
+    requires stands { Stands P.observed engine.now }
+    requires within { j < length engine.now.states }
+    requires served { IsServed engine.now }
+    ensures { result ≡ (not (is_retired engine.now.log j) && names_at engine.now.log j i) }
 {
-    !is_ended(books, j) && (sends(books, j, i) || waits(books, j, i))
+    !is_ended(engine, j) && (sends(engine, j, i) || waits(engine, j, i))
 }
 
 /// Whether an instance has ended.
-fn is_ended<P: Port>(books: &Books<P>, j: u32) -> bool
-    requires stands { Stands P.told books.now }
-    requires within { j < length books.now.seats }
-    ensures { result ≡ is_retired books.now.log j }
+fn is_ended<P: Port>(engine: &EngineState<P>, j: u32) -> bool
+    requires stands { Stands P.observed engine.now }
+    requires within { j < length engine.now.states }
+    ensures { result ≡ is_retired engine.now.log j }
 {
-    books.seats.get(j).facts.retired
+    engine.states.get(j).facts.retired
 }
 
 /// Whether a child of an instance waits for another one.
-fn waits<P: Port>(books: &Books<P>, j: u32, i: u32) -> bool
-    requires stands { Stands P.told books.now }
-    requires within { j < length books.now.seats }
-    ensures { result ≡ not (is_empty (waiting books.now.log j i)) }
+fn waits<P: Port>(engine: &EngineState<P>, j: u32, i: u32) -> bool
+    requires stands { Stands P.observed engine.now }
+    requires within { j < length engine.now.states }
+    ensures { result ≡ not (is_empty (waiting engine.now.log j i)) }
 {
-    books.places.awaits(j, i)
+    engine.places.awaits(j, i)
 }
 
 /// Whether an instance sends what it puts out to another one. A dry source that sent everything sends to none.
-fn sends<P: Port>(books: &Books<P>, j: u32, i: u32) -> bool
-    requires stands { Stands P.told books.now }
-    requires within { j < length books.now.seats }
-    requires served { IsServed books.now }
-    ensures { result ≡ contains (routes books.now.log j (all_ports books.now.log j)) i }
+fn sends<P: Port>(engine: &EngineState<P>, j: u32, i: u32) -> bool
+    requires stands { Stands P.observed engine.now }
+    requires within { j < length engine.now.states }
+    requires served { IsServed engine.now }
+    ensures { result ≡ contains (routes engine.now.log j (all_ports engine.now.log j)) i }
 {
-    let over = both(is_dry(books, j), is_sent(books, j));
-    both(!over, is_target(&books.seats.get(j).outlet, i))
+    let over = both(is_dry(engine, j), is_sent(engine, j));
+    both(!over, is_target(&engine.states.get(j).outlet, i))
 }
 
 /// How many ports an instance may have.

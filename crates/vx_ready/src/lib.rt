@@ -1,4 +1,4 @@
-//! What an instance has to do next: looks at the books that answer as the record's own tests do.
+//! What an instance has to do next: looks at the engine's state that answer as the record's own tests do.
 #![tactic(auto)]
 
 mod batches;

@@ -16,69 +16,69 @@ use crate::finishing::is_unbuffered;
 use crate::jobs::{is_open, is_settled};
 use crate::sources::is_sent;
 use vx_ends::Port;
-use vx_moves::Books;
+use vx_moves::EngineState;
 
 /// Whether an instance that merges has something to do at a moment, in milliseconds, once all that it put out is on its way: something
 /// is buffered, it is to act by itself, or it is to put out all that it holds since nothing more can come. It has nothing to do where
-/// it isn't at home, or may owe something for want of memory, where it ended, and where the run was given up.
-pub fn can_merge<P: Port>(books: &Books<P>, i: u32, now: u64) -> bool
-    requires stands { Stands P.told books.now }
-    requires within { i < length books.now.seats }
-    requires served { IsServed books.now }
-    requires joins { joins_at books.now.log i ≡ true }
-    ensures leasable { IsTrue result → IsLeasable books.now i now }
-    ensures settled { IsTrue result → IsSettled books.now i }
-    ensures none { result ≡ false → IsSettled books.now i → IsOpen books.now i →
-        is_transform_ready books.now.log i ≡ false }
-    ensures unready { result ≡ false → IsSettled books.now i → IsOpen books.now i →
-        is_ready books.now.log i now ≡ false }
-    ensures early { result ≡ false → IsSettled books.now i → IsOpen books.now i →
-        IsKeeper CanAnswer books.now.keepers.items i → IsTickReady books.now.log i now → ⊥ }
+/// it is leased, or may owe something for want of memory, where it ended, and where the run was given up.
+pub fn can_merge<P: Port>(engine: &EngineState<P>, i: u32, now: u64) -> bool
+    requires stands { Stands P.observed engine.now }
+    requires within { i < length engine.now.states }
+    requires served { IsServed engine.now }
+    requires joins { joins_at engine.now.log i ≡ true }
+    ensures leasable { IsTrue result → IsLeasable engine.now i now }
+    ensures settled { IsTrue result → IsSettled engine.now i }
+    ensures none { result ≡ false → IsSettled engine.now i → IsOpen engine.now i →
+        is_transform_ready engine.now.log i ≡ false }
+    ensures unready { result ≡ false → IsSettled engine.now i → IsOpen engine.now i →
+        is_ready engine.now.log i now ≡ false }
+    ensures early { result ≡ false → IsSettled engine.now i → IsOpen engine.now i →
+        IsKeeper CanAnswer engine.now.keepers.items i → IsTickReady engine.now.log i now → ⊥ }
 {
-    if !is_settled(books, i) {
+    if !is_settled(engine, i) {
         return false;
     }
-    if !is_open(books, i) {
+    if !is_open(engine, i) {
         return false;
     }
-    is_sent(books, i) && has_inputs(books, i, now)
+    is_sent(engine, i) && has_inputs(engine, i, now)
 }
 
 /// Whether there is something for an instance that merges to answer: what is buffered, a tick that is due at a moment, or the flush.
-fn has_inputs<P: Port>(books: &Books<P>, i: u32, now: u64) -> bool
-    requires stands { Stands P.told books.now }
-    requires within { i < length books.now.seats }
-    requires served { IsServed books.now }
-    requires joins { joins_at books.now.log i ≡ true }
+fn has_inputs<P: Port>(engine: &EngineState<P>, i: u32, now: u64) -> bool
+    requires stands { Stands P.observed engine.now }
+    requires within { i < length engine.now.states }
+    requires served { IsServed engine.now }
+    requires joins { joins_at engine.now.log i ≡ true }
     ensures some { IsTrue result →
-        ((not (is_empty (buffered books.now.log i)) || is_flush_due books.now.log i) ≡ true)
-        ⊎ IsTickDue books.now.log i now }
+        ((not (is_empty (buffered engine.now.log i)) || is_flush_due engine.now.log i) ≡ true)
+        ⊎ IsTickDue engine.now.log i now }
     ensures none { result ≡ false →
-        (not (is_empty (buffered books.now.log i)) || is_flush_due books.now.log i) ≡ false }
-    ensures early { result ≡ false → IsKeeper CanAnswer books.now.keepers.items i →
-        taken_in books.now.log i ≡ [] → IsTickDue books.now.log i now → ⊥ }
+        (not (is_empty (buffered engine.now.log i)) || is_flush_due engine.now.log i) ≡ false }
+    ensures early { result ≡ false → IsKeeper CanAnswer engine.now.keepers.items i →
+        taken_in engine.now.log i ≡ [] → IsTickDue engine.now.log i now → ⊥ }
 {
-    if !is_unbuffered(books, i) {
+    if !is_unbuffered(engine, i) {
         return true;
     }
-    if is_check_due(books, i, now) {
+    if is_check_due(engine, i, now) {
         return true;
     }
-    must_flush(books, i)
+    must_flush(engine, i)
 }
 
 /// Whether an instance that merges is to act by itself at a moment, in milliseconds. It isn't while it took something that it hasn't
 /// answered, nor once no memory was found for an answer.
-pub fn is_check_due<P: Port>(books: &Books<P>, i: u32, now: u64) -> bool
-    requires stands { Stands P.told books.now }
-    requires within { i < length books.now.seats }
-    requires joins { joins_at books.now.log i ≡ true }
-    ensures due { IsTrue result → IsTickDue books.now.log i now }
-    ensures none { IsTrue result → taken_in books.now.log i ≡ [] }
-    ensures early { result ≡ false → IsKeeper CanAnswer books.now.keepers.items i →
-        taken_in books.now.log i ≡ [] → IsTickDue books.now.log i now → ⊥ }
+pub fn is_check_due<P: Port>(engine: &EngineState<P>, i: u32, now: u64) -> bool
+    requires stands { Stands P.observed engine.now }
+    requires within { i < length engine.now.states }
+    requires joins { joins_at engine.now.log i ≡ true }
+    ensures due { IsTrue result → IsTickDue engine.now.log i now }
+    ensures none { IsTrue result → taken_in engine.now.log i ≡ [] }
+    ensures early { result ≡ false → IsKeeper CanAnswer engine.now.keepers.items i →
+        taken_in engine.now.log i ≡ [] → IsTickDue engine.now.log i now → ⊥ }
 {
-    match books.check_due(i) {
+    match engine.check_due(i) {
         Some(moment) => moment <= now,
         None => false,
     }
@@ -86,18 +86,18 @@ pub fn is_check_due<P: Port>(books: &Books<P>, i: u32, now: u64) -> bool
 
 /// Whether an instance that merges is to put out all that it holds: nothing more can come to it, nothing is buffered, and it holds
 /// something.
-pub fn must_flush<P: Port>(books: &Books<P>, i: u32) -> bool
-    requires stands { Stands P.told books.now }
-    requires within { i < length books.now.seats }
-    requires served { IsServed books.now }
-    requires joins { joins_at books.now.log i ≡ true }
-    ensures { result ≡ is_flush_due books.now.log i }
+pub fn must_flush<P: Port>(engine: &EngineState<P>, i: u32) -> bool
+    requires stands { Stands P.observed engine.now }
+    requires within { i < length engine.now.states }
+    requires served { IsServed engine.now }
+    requires joins { joins_at engine.now.log i ≡ true }
+    ensures { result ≡ is_flush_due engine.now.log i }
 {
-    if books.keeps_none(i) {
+    if engine.keeps_none(i) {
         return false;
     }
-    if !is_unbuffered(books, i) {
+    if !is_unbuffered(engine, i) {
         return false;
     }
-    is_ending(books, i)
+    is_ending(engine, i)
 }

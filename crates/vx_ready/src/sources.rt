@@ -9,43 +9,43 @@ ghost use Rattle.vx_moves.specs.Stands.{Stands};
 ghost use Rattle.vx_ready.specs.Asking.{source_class, transform_class, sink_class, IsSettled};
 
 use vx_ends::Port;
-use vx_moves::Books;
+use vx_moves::EngineState;
 use vx_plan::Class;
 
 /// Whether an instance is a source.
-pub fn is_source<P: Port>(books: &Books<P>, i: u32) -> bool
-    requires stands { Stands P.told books.now }
-    requires within { i < length books.now.seats }
-    ensures { result ≡ source_at books.now.log i }
+pub fn is_source<P: Port>(engine: &EngineState<P>, i: u32) -> bool
+    requires stands { Stands P.observed engine.now }
+    requires within { i < length engine.now.states }
+    ensures { result ≡ source_at engine.now.log i }
 {
-    is_source_class(books.seats.get(i).class)
+    is_source_class(engine.states.get(i).class)
 }
 
 /// Whether an instance is a sink.
-pub fn is_sink<P: Port>(books: &Books<P>, i: u32) -> bool
-    requires stands { Stands P.told books.now }
-    requires within { i < length books.now.seats }
-    ensures { result ≡ sink_at books.now.log i }
+pub fn is_sink<P: Port>(engine: &EngineState<P>, i: u32) -> bool
+    requires stands { Stands P.observed engine.now }
+    requires within { i < length engine.now.states }
+    ensures { result ≡ sink_at engine.now.log i }
 {
-    is_sink_class(books.seats.get(i).class)
+    is_sink_class(engine.states.get(i).class)
 }
 
 /// Whether an instance is a transform.
-pub fn is_transform<P: Port>(books: &Books<P>, i: u32) -> bool
-    requires stands { Stands P.told books.now }
-    requires within { i < length books.now.seats }
-    ensures { result ≡ transform_at books.now.log i }
+pub fn is_transform<P: Port>(engine: &EngineState<P>, i: u32) -> bool
+    requires stands { Stands P.observed engine.now }
+    requires within { i < length engine.now.states }
+    ensures { result ≡ transform_at engine.now.log i }
 {
-    is_transform_class(books.seats.get(i).class)
+    is_transform_class(engine.states.get(i).class)
 }
 
 /// Whether an instance works with a port.
-pub fn has_device<P: Port>(books: &Books<P>, i: u32) -> bool
-    requires stands { Stands P.told books.now }
-    requires within { i < length books.now.seats }
-    ensures { result ≡ device_at books.now.log i }
+pub fn has_device<P: Port>(engine: &EngineState<P>, i: u32) -> bool
+    requires stands { Stands P.observed engine.now }
+    requires within { i < length engine.now.states }
+    ensures { result ≡ device_at engine.now.log i }
 {
-    books.seats.get(i).device
+    engine.states.get(i).device
 }
 
 /// Whether a class is that of sources.
@@ -70,22 +70,22 @@ fn is_sink_class(class: Class) -> bool
 }
 
 /// Whether all that an instance put out is on its way: it has neither an output nor a waiting child.
-pub fn is_sent<P: Port>(books: &Books<P>, i: u32) -> bool
-    requires stands { Stands P.told books.now }
-    requires within { i < length books.now.seats }
-    ensures { result ≡ is_sent_at books.now.log i }
+pub fn is_sent<P: Port>(engine: &EngineState<P>, i: u32) -> bool
+    requires stands { Stands P.observed engine.now }
+    requires within { i < length engine.now.states }
+    ensures { result ≡ is_sent_at engine.now.log i }
 {
-    books.places.is_sent(i)
+    engine.places.is_sent(i)
 }
 
 /// Whether an instance is a source that takes no more: it was told the end of all, or was lost.
-pub fn is_dry<P: Port>(books: &Books<P>, i: u32) -> bool
-    requires stands { Stands P.told books.now }
-    requires within { i < length books.now.seats }
-    ensures { result ≡ is_dry_at books.now.log i }
+pub fn is_dry<P: Port>(engine: &EngineState<P>, i: u32) -> bool
+    requires stands { Stands P.observed engine.now }
+    requires within { i < length engine.now.states }
+    ensures { result ≡ is_dry_at engine.now.log i }
 {
-    let seat = books.seats.get(i);
-    takes_none(seat.class, seat.facts.over, seat.facts.lost.is_some())
+    let state = engine.states.get(i);
+    takes_none(state.class, state.facts.over, state.facts.lost.is_some())
 }
 
 /// Whether a class is that of sources, and one of two holds.
@@ -96,43 +96,43 @@ fn takes_none(class: Class, over: bool, lost: bool) -> bool
 }
 
 /// Whether a confirm is due at an instance that owes nothing. Where it works with no port, none is.
-pub fn is_confirm_due<P: Port>(books: &Books<P>, i: u32) -> bool
-    requires stands { Stands P.told books.now }
-    requires within { i < length books.now.seats }
-    requires settled { IsSettled books.now i }
-    ensures { result ≡ is_confirm_due_at books.now.log i }
+pub fn is_confirm_due<P: Port>(engine: &EngineState<P>, i: u32) -> bool
+    requires stands { Stands P.observed engine.now }
+    requires within { i < length engine.now.states }
+    requires settled { IsSettled engine.now i }
+    ensures { result ≡ is_confirm_due_at engine.now.log i }
 {
-    let seat = books.seats.get(i);
-    both(seat.device, seat.progress.prefix.is_due())
+    let state = engine.states.get(i);
+    both(state.device, state.progress.prefix.is_due())
 }
 
 /// Whether each batch of an instance has its notice.
-pub fn all_noticed<P: Port>(books: &Books<P>, i: u32) -> bool
-    requires stands { Stands P.told books.now }
-    requires within { i < length books.now.seats }
-    ensures { result ≡ all_noticed_at books.now.log i }
+pub fn all_noticed<P: Port>(engine: &EngineState<P>, i: u32) -> bool
+    requires stands { Stands P.observed engine.now }
+    requires within { i < length engine.now.states }
+    ensures { result ≡ all_noticed_at engine.now.log i }
 {
-    books.seats.get(i).progress.unnoticed == 0
+    engine.states.get(i).progress.unnoticed == 0
 }
 
 /// Whether an instance that is a source can be read at a moment, in milliseconds: it isn't dry, all that it put out is on its way, and
 /// it has rested.
-pub fn can_read<P: Port>(books: &Books<P>, i: u32, now: u64) -> bool
-    requires stands { Stands P.told books.now }
-    requires within { i < length books.now.seats }
-    ensures { result ≡ can_read_at books.now.log i now }
+pub fn can_read<P: Port>(engine: &EngineState<P>, i: u32, now: u64) -> bool
+    requires stands { Stands P.observed engine.now }
+    requires within { i < length engine.now.states }
+    ensures { result ≡ can_read_at engine.now.log i now }
 {
-    let rested = books.seats.get(i).facts.reads_from <= now;
-    both(gives_more(books, i), rested)
+    let rested = engine.states.get(i).facts.reads_from <= now;
+    both(gives_more(engine, i), rested)
 }
 
 /// Whether an instance that is a source can be read once it has rested: it isn't dry, and all that it put out is on its way.
-pub(crate) fn gives_more<P: Port>(books: &Books<P>, i: u32) -> bool
-    requires stands { Stands P.told books.now }
-    requires within { i < length books.now.seats }
-    ensures { result ≡ (is_sent_at books.now.log i && not (is_dry_at books.now.log i)) }
+pub(crate) fn gives_more<P: Port>(engine: &EngineState<P>, i: u32) -> bool
+    requires stands { Stands P.observed engine.now }
+    requires within { i < length engine.now.states }
+    ensures { result ≡ (is_sent_at engine.now.log i && not (is_dry_at engine.now.log i)) }
 {
-    both(is_sent(books, i), !is_dry(books, i))
+    both(is_sent(engine, i), !is_dry(engine, i))
 }
 
 /// Whether two hold.

@@ -13,99 +13,99 @@ use crate::finishing::count_held;
 use crate::jobs::{is_open, is_settled};
 use crate::sources::{either, gives_more, is_sent};
 use vx_ends::Port;
-use vx_moves::Books;
+use vx_instances::Batching;
+use vx_moves::EngineState;
 use vx_plan::Class;
-use vx_seats::Batching;
 
-/// The moment for which an instance at home waits, in milliseconds: a source that rests, a sink that makes an attempt again or whose
-/// batch gets old. `None` where there is none, where the instance isn't at home, or may owe something for want of memory, where its
-/// port is closed for good or may have given what no entry tells, where it ended, and where the run was given up.
-pub fn waits_until<P: Port>(books: &Books<P>, i: u32) -> Option<u64>
-    requires stands { Stands P.told books.now }
-    requires within { i < length books.now.seats }
-    requires served { IsServed books.now }
-    ensures waits { IsSettled books.now i → IsOpen books.now i →
-        result ≡ waits_until_at books.now.log i }
-    ensures settled { IfSome result (λ moment. IsSettled books.now i) }
-    ensures open { IfSome result (λ moment. IsOpen books.now i) }
+/// The moment for which an unleased instance waits, in milliseconds: a source that rests, a sink that makes an attempt again or
+/// whose batch gets old. `None` where there is none, where the instance is leased, or may owe something for want of memory, where
+/// its port is closed for good or may have given what no entry tells, where it ended, and where the run was given up.
+pub fn waits_until<P: Port>(engine: &EngineState<P>, i: u32) -> Option<u64>
+    requires stands { Stands P.observed engine.now }
+    requires within { i < length engine.now.states }
+    requires served { IsServed engine.now }
+    ensures waits { IsSettled engine.now i → IsOpen engine.now i →
+        result ≡ waits_until_at engine.now.log i }
+    ensures settled { IfSome result (λ moment. IsSettled engine.now i) }
+    ensures open { IfSome result (λ moment. IsOpen engine.now i) }
 {
-    if !is_settled(books, i) {
+    if !is_settled(engine, i) {
         return None;
     }
-    if !is_open(books, i) {
+    if !is_open(engine, i) {
         return None;
     }
-    match books.seats.get(i).class {
-        Class::Source => source_waits(books, i),
+    match engine.states.get(i).class {
+        Class::Source => source_waits(engine, i),
         Class::Transform => None,
-        Class::Sink => sink_waits(books, i),
+        Class::Sink => sink_waits(engine, i),
     }
 }
 
-/// The moment of the next check of an instance at home that merges and holds a group, in milliseconds: from then on it is to act by
+/// The moment of the next check of an unleased instance that merges and holds a group, in milliseconds: from then on it is to act by
 /// itself. `None` of any other instance, and where it took something that it hasn't answered, or not all that it put out is on its way.
-pub fn checks_at<P: Port>(books: &Books<P>, i: u32) -> Option<u64>
-    requires stands { Stands P.told books.now }
-    requires within { i < length books.now.seats }
+pub fn checks_at<P: Port>(engine: &EngineState<P>, i: u32) -> Option<u64>
+    requires stands { Stands P.observed engine.now }
+    requires within { i < length engine.now.states }
     ensures due { IfSome result
-        (λ moment. (now : ℕ) → moment ≤ now → IsTickReady books.now.log i now) }
-    ensures joins { IfSome result (λ moment. joins_at books.now.log i ≡ true) }
-    ensures settled { IfSome result (λ moment. IsSettled books.now i) }
-    ensures open { IfSome result (λ moment. IsOpen books.now i) }
-    ensures only { IsSettled books.now i → IsOpen books.now i →
-        joins_at books.now.log i ≡ true → IsKeeper CanAnswer books.now.keepers.items i →
-        (now : ℕ) → IsTickReady books.now.log i now → IsSomeAnd result (λ moment. moment ≤ now) }
+        (λ moment. (now : ℕ) → moment ≤ now → IsTickReady engine.now.log i now) }
+    ensures joins { IfSome result (λ moment. joins_at engine.now.log i ≡ true) }
+    ensures settled { IfSome result (λ moment. IsSettled engine.now i) }
+    ensures open { IfSome result (λ moment. IsOpen engine.now i) }
+    ensures only { IsSettled engine.now i → IsOpen engine.now i →
+        joins_at engine.now.log i ≡ true → IsKeeper CanAnswer engine.now.keepers.items i →
+        (now : ℕ) → IsTickReady engine.now.log i now → IsSomeAnd result (λ moment. moment ≤ now) }
 {
-    if !is_settled(books, i) {
+    if !is_settled(engine, i) {
         return None;
     }
-    if !is_open(books, i) {
+    if !is_open(engine, i) {
         return None;
     }
-    if !books.merges(i) {
+    if !engine.merges(i) {
         return None;
     }
-    if !is_sent(books, i) {
+    if !is_sent(engine, i) {
         return None;
     }
-    books.check_due(i)
+    engine.check_due(i)
 }
 
 /// The moment from which on a source may be read, if it can be once it has rested.
-fn source_waits<P: Port>(books: &Books<P>, i: u32) -> Option<u64>
-    requires stands { Stands P.told books.now }
-    requires within { i < length books.now.seats }
-    ensures { result ≡ source_waits_at books.now.log i }
+fn source_waits<P: Port>(engine: &EngineState<P>, i: u32) -> Option<u64>
+    requires stands { Stands P.observed engine.now }
+    requires within { i < length engine.now.states }
+    ensures { result ≡ source_waits_at engine.now.log i }
 {
-    let moment = books.seats.get(i).facts.reads_from;
-    if gives_more(books, i) {
+    let moment = engine.states.get(i).facts.reads_from;
+    if gives_more(engine, i) {
         Some(moment)
     } else {
         None
     }
 }
 
-/// The moment for which a sink at home waits that holds something.
-fn sink_waits<P: Port>(books: &Books<P>, i: u32) -> Option<u64>
-    requires stands { Stands P.told books.now }
-    requires within { i < length books.now.seats }
-    requires served { IsServed books.now }
-    requires settled { IsSettled books.now i }
-    requires sink { sink_at books.now.log i ≡ true }
-    ensures { result ≡ sink_waits_at books.now.log i }
+/// The moment for which an unleased sink waits that holds something.
+fn sink_waits<P: Port>(engine: &EngineState<P>, i: u32) -> Option<u64>
+    requires stands { Stands P.observed engine.now }
+    requires within { i < length engine.now.states }
+    requires served { IsServed engine.now }
+    requires settled { IsSettled engine.now i }
+    requires sink { sink_at engine.now.log i ≡ true }
+    ensures { result ≡ sink_waits_at engine.now.log i }
 {
-    let held = count_held(books, i);
-    let seat = books.seats.get(i);
-    let full = is_full(seat.batching, held);
-    let due = either(full, failed_before(seat.facts.failures));
-    let ready = either(due, is_last(books, i));
+    let held = count_held(engine, i);
+    let state = engine.states.get(i);
+    let full = is_full(state.batching, held);
+    let due = either(full, failed_before(state.facts.failures));
+    let ready = either(due, is_last(engine, i));
     if held == 0 {
         return None;
     }
     if ready {
-        return Some(retry_from(books, i));
+        return Some(retry_from(engine, i));
     }
-    Some(times_out(seat.batching, seat.facts.since))
+    Some(times_out(state.batching, state.facts.since))
 }
 
 /// Whether so many parcels are as many as a batch may have.

@@ -7,7 +7,7 @@ use Rattle.vx_record.specs.Records.{Record}
 use Rattle.vx_record.specs.Batches.{batch_of}
 use Rattle.vx_record.specs.Statuses.{AllGood}
 use Rattle.vx_record.specs.Accounting.{IsAccounted}
-use Rattle.vx_record.specs.Laws.{times_noticed, NoSpentAfterNotice, NoticeTells, AccountedTells, BeginningLegal}
+use Rattle.vx_record.specs.Laws.{times_noticed, NoSpentAfterNotice, NoticeReports, AccountedReports, BeginningLegal}
 use Rattle.vx_record.proofs.OnePlace.{legal_before}
 use Rattle.vx_record.proofs.Notices.{noticed}
 use Rattle.vx_record.proofs.Statuses.{delivered_so}
@@ -46,13 +46,13 @@ good_before [] earlier b status good = good
 good_before (Spent i c outcome ∷ later) earlier b status good = good_before later earlier b status good.1
 good_before (e ∷ later) earlier b status good = good_before later earlier b status good
 
-pub accounted_tells : AccountedTells
-accounted_tells later earlier b status sound =
+pub accounted_reports : AccountedReports
+accounted_reports later earlier b status sound =
     let folded = (accounted_so later earlier b status sound).1 in
     let meant = delivered_so earlier b (accounted_before later (Notice b status ∷ earlier) sound).1 in (
       λ delivered. good_after later earlier b status sound (meant.0 (sym folded ∙ delivered)),
       λ good. folded ∙ meant.1 (good_before later earlier b status good),
     )
 
-pub notice_tells : NoticeTells
-notice_tells later earlier b status legal = accounted_tells later earlier b status (accounted (later ++ Notice b status ∷ earlier) legal)
+pub notice_reports : NoticeReports
+notice_reports later earlier b status legal = accounted_reports later earlier b status (accounted (later ++ Notice b status ∷ earlier) legal)

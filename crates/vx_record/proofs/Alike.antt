@@ -15,7 +15,7 @@ use Rattle.vx_record.specs.SinkBatches.{attempts_with, failures_with, failed_at,
 use Rattle.vx_record.specs.Legal.{IsLegal}
 use Rattle.vx_record.proofs.Counts.{count-append, unless-none, unless-some}
 use Rattle.vx_record.proofs.OnePlace.{conserved}
-use Rattle.vx_record.proofs.Hands.{hand_is_live}
+use Rattle.vx_record.proofs.HeldCopies.{held_is_live}
 use Rattle.vx_record.proofs.Answers.{count-shrunk}
 use Rattle.vx_record.proofs.Attempted.{attempts_sink, attempted_held}
 use Rattle.vx_record.proofs.Promises.{failed_counts}
@@ -28,7 +28,7 @@ IsAlike h i c d =
 
 -- what is held is unspent
 pub held_unspent : (h : Record) (i c : ℕ) → IsLegal h → 0 < count c (joined (held h i)) → times_spent h c ≡ 0
-held_unspent h i c legal here = (hand_is_live h (Held i) (joined (held h i)) (conserved h legal) (λ d l. l) c here).2
+held_unspent h i c legal here = (held_is_live h (Held i) (joined (held h i)) (conserved h legal) (λ d l. l) c here).2
 
 -- the first of some copies is one of them
 pub first_there : (c : ℕ) (cs : List ℕ) → 0 < count c cs → 0 < count (first_copy cs) cs
@@ -90,7 +90,7 @@ taken_untried h i s copies c legal alike_there here = elim (cases_lt 0 (attempts
         cc
 
 -- ALL ENTRIES
--- what is left in a hand was there
+-- what is left among copies was there
 fewer : (c : ℕ) (gone : List ℕ) (ps : List (List ℕ)) → 0 < count c (joined (shrunk gone ps)) → 0 < count c (joined ps)
 fewer c gone ps some =
     let all = count-shrunk c gone ps in

@@ -17,7 +17,7 @@ use Rattle.vx_record.specs.Moving.{IsConserved}
 use Rattle.vx_record.specs.Legal.{IsLegal}
 use Rattle.vx_record.proofs.Counts.{count-append, count-without, unless}
 use Rattle.vx_record.proofs.Changes.{parcels_after, put_at}
-use Rattle.vx_record.proofs.Hands.{not_there, stands_still}
+use Rattle.vx_record.proofs.HeldCopies.{not_there, stands_still}
 use Rattle.vx_record.proofs.Answerers.{sink_untransforming, unanswering}
 use Rattle.vx_record.proofs.OnePlace.{conserved as legal_conserved}
 

@@ -19,13 +19,13 @@ leased_dry true false true d o dry = refl
 leased_dry true false false true o dry = refl
 leased_dry true false false false o dry = cc
 
--- and at home
-home_dry : (s e l d o : Bool) → (s && (e || l || (d && o))) ≡ true → (s && (e || l || (d && true))) ≡ true
-home_dry false e l d o dry = cc
-home_dry true true l d o dry = refl
-home_dry true false true d o dry = refl
-home_dry true false false true o dry = refl
-home_dry true false false false o dry = cc
+-- and unleased
+unleased_dry : (s e l d o : Bool) → (s && (e || l || (d && o))) ≡ true → (s && (e || l || (d && true))) ≡ true
+unleased_dry false e l d o dry = cc
+unleased_dry true true l d o dry = refl
+unleased_dry true false true d o dry = refl
+unleased_dry true false false true o dry = refl
+unleased_dry true false false false o dry = cc
 
 -- and where more was taken
 read_dry : (s x e l d : Bool) → (s && (e || l || d)) ≡ true → (s && ((x || e) || l || d)) ≡ true
@@ -52,7 +52,7 @@ dry_on h (Lease j worker now polls) i legal dry = go (j == i)
 dry_on h (Home j) i legal dry = go (j == i)
   where
     go : (b : Bool) → (source_at h i && (all_ended h i || is_lost h i || (drains h i && not ((if b then false else is_out h i) && not (drains (at_lease h i) i))))) ≡ true
-    go true = home_dry (source_at h i) (all_ended h i) (is_lost h i) (drains h i) (not (is_out_from_before h i)) dry
+    go true = unleased_dry (source_at h i) (all_ended h i) (is_lost h i) (drains h i) (not (is_out_from_before h i)) dry
     go false = dry
 dry_on h (Read j stream took) i legal dry =
     read_dry (source_at h i) ((j == i) && is_end took) (all_ended h i) (is_lost h i) (drains h i && not (is_out_from_before h i)) dry

@@ -27,7 +27,7 @@ use Rattle.vx_record.proofs.Tracked.{Tracked, stand_in, stand_cases, put_in, gon
 use Rattle.vx_record.proofs.OnePlace.{conserved, tracked}
 use Rattle.vx_record.proofs.Place.{count-parcels_at}
 use Rattle.vx_record.proofs.Changes.{put_at, parcels_after, stands_once}
-use Rattle.vx_record.proofs.Hands.{not_there}
+use Rattle.vx_record.proofs.HeldCopies.{not_there}
 use Rattle.vx_record.proofs.Steps.{family, children_before}
 
 each-append : (h : Record) (xs ys : List (List ℕ)) → EachHasOneEvent h xs → EachHasOneEvent h ys → EachHasOneEvent h (xs ++ ys)

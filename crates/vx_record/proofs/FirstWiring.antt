@@ -4,7 +4,7 @@ use Rattle.std.specs.List.{list_any}
 use Rattle.std.proofs.Common.{sym, ◌∙◌, ap, arith, eq-eqb}
 use Rattle.std.proofs.lemmas.List.{append-nil}
 use Rattle.std.proofs.lemmas.Bool.Decides.{nat_tests}
-use Rattle.vx_value.specs.Texts.{Word, same_text}
+use Rattle.vx_value.specs.Texts.{ByteString, same_text}
 use Rattle.vx_plan.specs.declared.component.Component.{Component}
 use Rattle.vx_plan.specs.declared.plan.Plan.{Plan}
 use Rattle.vx_plan.specs.Accepted.{names_differ}
@@ -67,7 +67,7 @@ one_more true instance others numbers e = ap (λ ns. instance.number ∷ ns) e
 one_more false instance others numbers e = e
 
 -- the numbers of the new instances of a name
-numbers_first : (from : ℕ) (components : List Component) (name : Word) → numbers_of (first_instances from components) name ≡ numbers_named from components name
+numbers_first : (from : ℕ) (components : List Component) (name : ByteString) → numbers_of (first_instances from components) name ≡ numbers_named from components name
 numbers_first from [] name = refl
 numbers_first from (c ∷ rest) name =
     one_more (same_text c.name name) (record { name = c.name; number = from; start = New })
@@ -75,7 +75,7 @@ numbers_first from (c ∷ rest) name =
     (numbers_named (from + 1) rest name) (numbers_first (from + 1) rest name)
 
 -- and of some names
-numbers_of_all : (components : List Component) (names : List Word) →
+numbers_of_all : (components : List Component) (names : List ByteString) →
     joined (map (numbers_of (first_instances 0 components)) names) ≡ numbers_of_names components names
 numbers_of_all components [] = refl
 numbers_of_all components (name ∷ rest) = λ k. numbers_first 0 components name k ++ numbers_of_all components rest k
@@ -87,14 +87,14 @@ wiring_of_first plan once now k c at =
     let zero_on : 0 + k ≡ k = omega arith in
     let named = name_of_first 0 plan.components k c at in
     let here : name_at (first_instances 0 plan.components) k ≡ Some c.name = ap (name_at (first_instances 0 plan.components)) (sym zero_on) ∙ named in
-    ap (λ (o : Option Word). elim o [ None ↦ None | Some name ↦ Some (record { plan = plan; once = once; instances = first_instances 0 plan.components; name = name }) ]) here
+    ap (λ (o : Option ByteString). elim o [ None ↦ None | Some name ↦ Some (record { plan = plan; once = once; instances = first_instances 0 plan.components; name = name }) ]) here
 
 pub targets_of_first : TargetsOfFirst
 targets_of_first plan once now k port c at =
     ap (λ (o : Option Wiring). elim o [ None ↦ [] | Some w ↦ wired_targets port w ]) (wiring_of_first plan once now k c at)
     ∙ numbers_of_all plan.components (targets plan c.name port)
 
-same_refl : (w : Word) → same_text w w ≡ true
+same_refl : (w : ByteString) → same_text w w ≡ true
 same_refl [] = refl
 same_refl (a ∷ w) = let here : (a == a) ≡ true = eq-eqb a a refl in rw here (same_refl w)
 
@@ -103,7 +103,7 @@ both true b e = (refl, e)
 both false b e = cc
 
 -- texts that are the same are equal
-same_means : (v w : Word) → same_text v w ≡ true → v ≡ w
+same_means : (v w : ByteString) → same_text v w ≡ true → v ≡ w
 same_means [] [] e = refl
 same_means [] (b ∷ w) e = cc
 same_means (a ∷ v) [] e = cc

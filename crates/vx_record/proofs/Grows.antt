@@ -8,7 +8,7 @@ use Rattle.vx_plan.specs.declared.class.Class.{Class}
 use Rattle.vx_plan.specs.declared.class.Class.TheVariants.{Source, Transform, Sink}
 use Rattle.vx_plan.specs.declared.component.Component.{Component}
 use Rattle.vx_record.specs.Records.{Record}
-use Rattle.vx_record.specs.Installs.{told}
+use Rattle.vx_record.specs.Installs.{component_or}
 use Rattle.vx_record.specs.declared.tally.Tally.{Tally}
 use Rattle.vx_record.specs.Tally.{nothing_counted}
 use Rattle.vx_record.specs.Tallies.{source_tally, transform_tally, sink_tally}
@@ -132,12 +132,12 @@ class_stays Transform e h i q = transform_stays e h i q
 class_stays Sink e h i q = sink_stays e h i q
 
 pub tally_stays : TallyStays
-tally_stays (Lease j worker now polls) h i q = λ t. told nothing_counted (λ (c : Component). class_stays c.class (Lease j worker now polls) h i q t) h i
-tally_stays (Home j) h i q = λ t. told nothing_counted (λ (c : Component). class_stays c.class (Home j) h i q t) h i
-tally_stays (Idle j failed) h i q = λ t. told nothing_counted (λ (c : Component). class_stays c.class (Idle j failed) h i q t) h i
-tally_stays (SourceLost j at failed) h i q = λ t. told nothing_counted (λ (c : Component). class_stays c.class (SourceLost j at failed) h i q t) h i
-tally_stays (Tick j now) h i q = λ t. told nothing_counted (λ (c : Component). class_stays c.class (Tick j now) h i q t) h i
-tally_stays (Closed j) h i q = λ t. told nothing_counted (λ (c : Component). class_stays c.class (Closed j) h i q t) h i
-tally_stays (Retired j) h i q = λ t. told nothing_counted (λ (c : Component). class_stays c.class (Retired j) h i q t) h i
-tally_stays (Abandon cause) h i q = λ t. told nothing_counted (λ (c : Component). class_stays c.class (Abandon cause) h i q t) h i
+tally_stays (Lease j worker now polls) h i q = λ t. component_or nothing_counted (λ (c : Component). class_stays c.class (Lease j worker now polls) h i q t) h i
+tally_stays (Home j) h i q = λ t. component_or nothing_counted (λ (c : Component). class_stays c.class (Home j) h i q t) h i
+tally_stays (Idle j failed) h i q = λ t. component_or nothing_counted (λ (c : Component). class_stays c.class (Idle j failed) h i q t) h i
+tally_stays (SourceLost j at failed) h i q = λ t. component_or nothing_counted (λ (c : Component). class_stays c.class (SourceLost j at failed) h i q t) h i
+tally_stays (Tick j now) h i q = λ t. component_or nothing_counted (λ (c : Component). class_stays c.class (Tick j now) h i q t) h i
+tally_stays (Closed j) h i q = λ t. component_or nothing_counted (λ (c : Component). class_stays c.class (Closed j) h i q t) h i
+tally_stays (Retired j) h i q = λ t. component_or nothing_counted (λ (c : Component). class_stays c.class (Retired j) h i q t) h i
+tally_stays (Abandon cause) h i q = λ t. component_or nothing_counted (λ (c : Component). class_stays c.class (Abandon cause) h i q t) h i
 tally_stays other h i q = absurd (cc)

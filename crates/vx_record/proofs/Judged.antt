@@ -75,53 +75,53 @@ runs_judging h i judge follows =
 
 -- WHAT IS GIVEN
 -- an input that is no parcel has no copies
-abbrev pub BearsOwn : Step → List ℕ → Type 0
-BearsOwn (comes event now) copies = Unit {0}
-BearsOwn (ticks now) copies = copies ≡ []
-BearsOwn ends copies = copies ≡ []
+abbrev pub CarriesOwn : Step → List ℕ → Type 0
+CarriesOwn (comes event now) copies = Unit {0}
+CarriesOwn (ticks now) copies = copies ≡ []
+CarriesOwn ends copies = copies ≡ []
 
 -- and this holds of each of some inputs
-abbrev pub AllBear : List Input → Type 0
-AllBear [] = Unit {0}
-AllBear (x ∷ xs) = BearsOwn x.step x.copies × AllBear xs
+abbrev pub AllCarry : List Input → Type 0
+AllCarry [] = Unit {0}
+AllCarry (x ∷ xs) = CarriesOwn x.step x.copies × AllCarry xs
 
-bear-append : (xs ys : List Input) → AllBear xs → AllBear ys → AllBear (xs ++ ys)
-bear-append [] ys a b = b
-bear-append (x ∷ xs) ys a b = (a.0, bear-append xs ys a.1 b)
+carry-append : (xs ys : List Input) → AllCarry xs → AllCarry ys → AllCarry (xs ++ ys)
+carry-append [] ys a b = b
+carry-append (x ∷ xs) ys a b = (a.0, carry-append xs ys a.1 b)
 
-bear-reverse : (xs : List Input) → AllBear xs → AllBear (reverse xs)
-bear-reverse [] a = tt
-bear-reverse (x ∷ xs) a =
-    subst AllBear (sym (reverse-append (x ∷ []) xs)) (bear-append (reverse xs) (x ∷ []) (bear-reverse xs a.1) (a.0, tt))
+carry-reverse : (xs : List Input) → AllCarry xs → AllCarry (reverse xs)
+carry-reverse [] a = tt
+carry-reverse (x ∷ xs) a =
+    subst AllCarry (sym (reverse-append (x ∷ []) xs)) (carry-append (reverse xs) (x ∷ []) (carry-reverse xs a.1) (a.0, tt))
 
-unanswered_bear : (h : Record) (i : ℕ) → AllBear (unanswered h i)
-unanswered_bear [] i = tt
-unanswered_bear (Take j s copies ∷ h) i = go (j == i) (unanswered_bear h i)
+unanswered_carry : (h : Record) (i : ℕ) → AllCarry (unanswered h i)
+unanswered_carry [] i = tt
+unanswered_carry (Take j s copies ∷ h) i = go (j == i) (unanswered_carry h i)
   where
     input : Input
     input = record { step = comes (parcel_event h copies) (lease_now h i); copies = copies }
 
-    go : (b : Bool) → AllBear (unanswered h i) → AllBear ((if b then input ∷ [] else []) ++ unanswered h i)
+    go : (b : Bool) → AllCarry (unanswered h i) → AllCarry ((if b then input ∷ [] else []) ++ unanswered h i)
     go true rest = (tt, rest)
     go false rest = rest
-unanswered_bear (Tick j now ∷ h) i = go (j == i) (unanswered_bear h i)
+unanswered_carry (Tick j now ∷ h) i = go (j == i) (unanswered_carry h i)
   where
     input : Input
     input = record { step = ticks now; copies = [] }
 
-    go : (b : Bool) → AllBear (unanswered h i) → AllBear ((if b then input ∷ [] else []) ++ unanswered h i)
+    go : (b : Bool) → AllCarry (unanswered h i) → AllCarry ((if b then input ∷ [] else []) ++ unanswered h i)
     go true rest = (refl, rest)
     go false rest = rest
-unanswered_bear (Answer j made discarded kept ∷ h) i = go (j == i) (unanswered_bear h i)
+unanswered_carry (Answer j made discarded kept ∷ h) i = go (j == i) (unanswered_carry h i)
   where
-    go : (b : Bool) → AllBear (unanswered h i) → AllBear (if b then [] else unanswered h i)
+    go : (b : Bool) → AllCarry (unanswered h i) → AllCarry (if b then [] else unanswered h i)
     go true rest = tt
     go false rest = rest
-unanswered_bear (e ∷ h) i = unanswered_bear h i
+unanswered_carry (e ∷ h) i = unanswered_carry h i
 
-flush_bears : (xs : List Input) → AllBear xs → AllBear (or_flush xs)
-flush_bears [] a = (refl, tt)
-flush_bears (x ∷ xs) a = a
+flush_carries : (xs : List Input) → AllCarry xs → AllCarry (or_flush xs)
+flush_carries [] a = (refl, tt)
+flush_carries (x ∷ xs) a = a
 
 -- the flush has no copies
 pub flush_joined : (xs : List Input) → joined (parcels_given (or_flush xs)) ≡ joined (parcels_given xs)
@@ -143,7 +143,7 @@ put_out-append c (x ∷ xs) ys =
     let ih = put_out-append c xs ys in
     omega (arith, a, b, ih)
 
-step_parts : (judge : Judge) (earlier : List Event) (step : Step) (copies : List ℕ) (c : ℕ) → BearsOwn step copies →
+step_parts : (judge : Judge) (earlier : List Event) (step : Step) (copies : List ℕ) (c : ℕ) → CarriesOwn step copies →
     count c (put_out (output_by judge earlier step copies)) + count c (discarded_by judge earlier step copies) ≡ count c copies
 step_parts judge earlier (comes e now) copies c own = go (judge earlier e)
   where
@@ -153,7 +153,7 @@ step_parts judge earlier (comes e now) copies c own = go (judge earlier e)
 step_parts judge earlier (ticks now) copies c own = let none = ap (count c) own in omega (arith, none)
 step_parts judge earlier ends copies c own = let none = ap (count c) own in omega (arith, none)
 
-judged_parts : (judge : Judge) (earlier : List Event) (xs : List Input) (c : ℕ) → AllBear xs →
+judged_parts : (judge : Judge) (earlier : List Event) (xs : List Input) (c : ℕ) → AllCarry xs →
     count c (put_out (judged judge earlier xs)) + count c (refused judge earlier xs) ≡ count c (joined (parcels_given xs))
 judged_parts judge earlier [] c own = refl
 judged_parts judge earlier (x ∷ xs) c own =
@@ -172,5 +172,5 @@ pub answer_parts : (judge : Judge) (h : Record) (i c : ℕ) →
     ≡ count c (joined (parcels_given (reverse (unanswered h i))))
 answer_parts judge h i c =
     judged_parts judge (answered_events h i) (to_answer h i) c
-    (flush_bears (reverse (unanswered h i)) (bear-reverse (unanswered h i) (unanswered_bear h i)))
+    (flush_carries (reverse (unanswered h i)) (carry-reverse (unanswered h i) (unanswered_carry h i)))
     ∙ ap (count c) (flush_joined (reverse (unanswered h i)))

@@ -30,7 +30,7 @@ use Rattle.vx_record.proofs.Counts.{count-append, unless, unless-none, unless-so
 use Rattle.vx_record.proofs.OnePlace.{conserved}
 use Rattle.vx_record.proofs.Changes.{NoneEmpty, none_empty, without-all, shrunk-none}
 use Rattle.vx_record.proofs.Entries.{take_grows, spent_shrinks}
-use Rattle.vx_record.proofs.Hands.{not_there}
+use Rattle.vx_record.proofs.HeldCopies.{not_there}
 use Rattle.vx_record.proofs.Answers.{count-shrunk, answer_holds}
 use Rattle.vx_record.proofs.Answerers.{sink_untransforming}
 use Rattle.vx_record.proofs.Waits.{all_spent, discards_go}
@@ -62,7 +62,7 @@ Holding h i = HoldsDiscards h i ⊎ HoldsGiven h i
 self : (i : ℕ) → (i == i) ≡ true
 self i = eq-eqb i i refl
 
--- an entry that leaves its hands, its inputs and its discards leaves that too
+-- an entry that leaves what it holds, its inputs and its discards leaves that too
 holds_on : (h : Record) (e : Entry) (i : ℕ) → unanswered (e ∷ h) i ≡ unanswered h i →
     last_discarded (e ∷ h) i ≡ last_discarded h i → held (e ∷ h) i ≡ held h i → Holding h i → Holding (e ∷ h) i
 holds_on h e i same gone stays (inl was) = inl (record {

@@ -30,7 +30,7 @@ use Rattle.vx_record.specs.Transforms.{Rule, rule_of}
 use Rattle.vx_record.specs.Legal.{IsLegal}
 use Rattle.vx_record.specs.Finality.{DoneStays, LeasedUnclosed, StaysBare}
 use Rattle.vx_record.proofs.OnePlace.{conserved}
-use Rattle.vx_record.proofs.Vacant.{Unfilled, bears, enters, unbuffered, is_empty_of, unentered, unfilled_on, bare_of, bare_unfilled}
+use Rattle.vx_record.proofs.Vacant.{Unfilled, creates, enters, unbuffered, is_empty_of, unentered, unfilled_on, bare_of, bare_unfilled}
 use Rattle.vx_record.proofs.Promises.{source_lease}
 use Rattle.vx_record.proofs.Turning.{turn_undry}
 use Rattle.vx_record.proofs.Bare.{retired_bare}
@@ -50,8 +50,8 @@ pub record Final (h : Record) (i : ℕ) : Type 0 where
   pub leased : is_out h i ≡ true → is_done (at_lease h i) i ≡ true
   pub quiet : Quiet h i
 
--- what is done stays so, where a source neither bears nor confirms, and else nobody bears
-done_on : (h : Record) (e : Entry) (i : ℕ) → IsLegal (e ∷ h) → (source_at h i ≡ true → (bears i e ≡ false) × (is_confirm_of i e ≡ false)) → (source_at h i ≡ false → (j : ℕ) → bears j e ≡ false) →
+-- what is done stays so, where a source neither creates a batch nor confirms, and else nobody creates a batch
+done_on : (h : Record) (e : Entry) (i : ℕ) → IsLegal (e ∷ h) → (source_at h i ≡ true → (creates i e ≡ false) × (is_confirm_of i e ≡ false)) → (source_at h i ≡ false → (j : ℕ) → creates j e ≡ false) →
     is_done h i ≡ true → is_done (e ∷ h) i ≡ true
 done_on h e i legal source worker done = go (source_at h i) refl
   where
@@ -59,18 +59,18 @@ done_on h e i legal source worker done = go (source_at h i) refl
     go true is = let off = source is in done_source (e ∷ h) i (source_on h e i legal off.0 off.1 (source_done h i is done))
     go false is = done_worker (e ∷ h) i legal (worker_on h e i legal (worker is) (worker_done h i legal.1 is done))
 
--- behind a Read that is quiet only others bear, and only where the instance is a source
+-- behind a Read that is quiet only others create a batch, and only where the instance is a source
 born_quiet : (h : Record) (j i : ℕ) (y : Yield) → yield h j ≡ Some y → Quiet h i → (source_at h i ≡ true) × ((j == i) ≡ false)
 born_quiet (Read k stream took ∷ h) j i y is quiet = (quiet.0, subst (λ (n : ℕ). (n == i) ≡ false) (reader h k stream took j y is) quiet.1)
 born_quiet h j i y is quiet = cc
 
--- so a source that is final bears nothing
-unborn : (h : Record) (e : Entry) (i : ℕ) → IsLegal (e ∷ h) → Quiet h i → bears i e ≡ false
+-- so a source that is final creates no batch
+unborn : (h : Record) (e : Entry) (i : ℕ) → IsLegal (e ∷ h) → Quiet h i → creates i e ≡ false
 unborn h (Born j b place copies events waits stream end) i legal quiet = (born_quiet h j i _ legal.0.row.yields quiet).1
 unborn h e i legal quiet = refl
 
--- and nobody bears beside a sink that is
-none_born : (h : Record) (e : Entry) (i : ℕ) → IsLegal (e ∷ h) → Quiet h i → source_at h i ≡ false → (j : ℕ) → bears j e ≡ false
+-- and nobody creates a batch beside a sink that is
+none_born : (h : Record) (e : Entry) (i : ℕ) → IsLegal (e ∷ h) → Quiet h i → source_at h i ≡ false → (j : ℕ) → creates j e ≡ false
 none_born h (Born k b place copies events waits stream end) i legal quiet off j =
     let no : true ≡ false = sym (born_quiet h k i _ legal.0.row.yields quiet).0 ∙ off in cc
 none_born h e i legal quiet off j = refl
@@ -236,14 +236,14 @@ unready h i now legal done is = ready_by (component_of h i) (is_source_ready h i
     transform : source_at h i ≡ false → is_transform_ready h i ≡ false
     transform off =
         let was = worker_done h i legal off done in
-        unflowing (is_sent h i) (is_empty (buffered h i)) (is_ending h i) (is_empty (held h i)) (unbuffered h i was.empty) (is_empty_of (held h i) was.empty.hands)
+        unflowing (is_sent h i) (is_empty (buffered h i)) (is_ending h i) (is_empty (held h i)) (unbuffered h i was.empty) (is_empty_of (held h i) was.empty.holdings)
 
     sink : source_at h i ≡ false → is_sink_ready h i now ≡ false
     sink off =
         let was = worker_done h i legal off done in
         or_from (is_attempt_due h i now || can_take h i now) (is_close_due h i)
         (or_from (is_attempt_due h i now) (can_take h i now)
-        (no_batch (is_empty (held h i)) (is_full_batch h i || is_timed_out h i now || is_last_batch h i || was_attempted h i) (nat_le (retry_from h i) now) (is_empty_of (held h i) was.empty.hands))
+        (no_batch (is_empty (held h i)) (is_full_batch h i || is_timed_out h i now || is_last_batch h i || was_attempted h i) (nat_le (retry_from h i) now) (is_empty_of (held h i) was.empty.holdings))
         (none_to_take (is_batch_closed h i now) (is_empty (buffered h i)) (unbuffered h i was.empty)))
         closing
 
@@ -299,7 +299,7 @@ retired_final (Retired j ∷ h) i legal kept is = go (j == i) refl is (retired_f
     over : (j ≡ i) → ((is_done h j ≡ true) ⊎ ((abandoned h ≡ true) × (is_bare h j ≡ true))) → Final (Retired j ∷ h) i
     over same (inl done) = record {
       done = done_on h (Retired j) i legal (λ on. (refl, refl)) (λ off k. refl) (subst (λ (k : ℕ). is_done h k ≡ true) same done);
-      leased = λ out. let no : true ≡ false = sym out ∙ subst (λ (k : ℕ). is_out h k ≡ false) same legal.0.row.home in cc;
+      leased = λ out. let no : true ≡ false = sym out ∙ subst (λ (k : ℕ). is_out h k ≡ false) same legal.0.row.unleased in cc;
       quiet = tt;
     }
     over same (inr gone) = let no : true ≡ false = sym gone.0 ∙ kept in cc

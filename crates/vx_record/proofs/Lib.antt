@@ -10,7 +10,7 @@ pub mod Statuses
 pub mod LegalNotices
 pub mod Changes
 pub mod Entries
-pub mod Hands
+pub mod HeldCopies
 pub mod Events
 pub mod Further
 pub mod After

@@ -1,4 +1,4 @@
--- What a source bore, what was confirmed to it and the bytes that a sink gave are the task's own.
+-- The batches that a source created, what was confirmed to it and the bytes that a sink gave are the task's own.
 use Rattle.std.proofs.Common.{◌≡◌, ℕ, false, [], ◌∷◌, refl}
 use Rattle.vx_record.specs.declared.entry.Entry.{Entry}
 use Rattle.vx_record.specs.declared.entry.Entry.TheVariants.{Born, Attempt, Confirm}

@@ -2,7 +2,7 @@
 use Rattle.std.proofs.Common.{◌≡◌, ℕ, ◌+◌, ◌-◌, true, false, [], ◌++◌, sym, ap, ◌∙◌, arith, length, drop, filter}
 use Rattle.std.proofs.lemmas.List.{append-nil}
 use Rattle.std.proofs.Math.Seq.{drop-append_seam}
-use Rattle.vx_value.specs.Texts.{Word}
+use Rattle.vx_value.specs.Texts.{ByteString}
 use Rattle.vx_frame.specs.Frames.{all_lines, fits, is_overlong, open_line, open_from, frames, discarded}
 use Rattle.vx_frame.proofs.Tears.{frames-tear, discarded-tear}
 use Rattle.vx_record.specs.declared.taken.Taken.{Taken}
@@ -11,7 +11,7 @@ use Rattle.vx_record.specs.Reads.{lines_past, overlong_past}
 use Rattle.vx_record.specs.LineBytes.{lines_after, overlong_after}
 
 -- all of them are those of the bytes before it, and then the Read's
-pub lines-after : (limit : ℕ) (before : Word) (took : Taken) → lines_after limit before took ≡ frames before limit false ++ lines_past limit before took
+pub lines-after : (limit : ℕ) (before : ByteString) (took : Taken) → lines_after limit before took ≡ frames before limit false ++ lines_past limit before took
 lines-after limit before took = go took
   where
     last : frames before limit true ≡ frames before limit false ++ filter (fits limit) (all_lines (open_from before) (open_line before) true)
@@ -25,7 +25,7 @@ lines-after limit before took = go took
     go StreamEnded = last
     go AllEnded = last
 
-pub overlong-after : (limit : ℕ) (before : Word) (took : Taken) → overlong_after limit before took ≡ discarded before limit false + overlong_past limit before took
+pub overlong-after : (limit : ℕ) (before : ByteString) (took : Taken) → overlong_after limit before took ≡ discarded before limit false + overlong_past limit before took
 overlong-after limit before took = go took
   where
     last : discarded before limit true ≡ discarded before limit false + length (filter (is_overlong limit) (all_lines (open_from before) (open_line before) true))
@@ -40,9 +40,9 @@ overlong-after limit before took = go took
     go AllEnded = last
 
 -- so the Read's are what is left without those
-pub past-dropped : (limit : ℕ) (before : Word) (took : Taken) → lines_past limit before took ≡ drop (length (frames before limit false)) (lines_after limit before took)
+pub past-dropped : (limit : ℕ) (before : ByteString) (took : Taken) → lines_past limit before took ≡ drop (length (frames before limit false)) (lines_after limit before took)
 past-dropped limit before took =
     sym (ap (drop (length (frames before limit false))) (lines-after limit before took) ∙ drop-append_seam (frames before limit false) (lines_past limit before took))
 
-pub past-less : (limit : ℕ) (before : Word) (took : Taken) → overlong_past limit before took ≡ overlong_after limit before took - discarded before limit false
+pub past-less : (limit : ℕ) (before : ByteString) (took : Taken) → overlong_past limit before took ≡ overlong_after limit before took - discarded before limit false
 past-less limit before took = let x = overlong-after limit before took in omega (arith, x)

@@ -4,7 +4,7 @@ use Rattle.std.specs.Prelude.{◌==◌, ◌&&◌, ◌||◌, ◌⊎◌, if◌then
 use Rattle.std.specs.List.{list_any, list_all}
 use Rattle.std.proofs.lemmas.Bool.{eqb-true}
 use Rattle.std.proofs.lemmas.List.{append-nil}
-use Rattle.vx_value.specs.Texts.{Word}
+use Rattle.vx_value.specs.Texts.{ByteString}
 use Rattle.vx_plan.specs.declared.component.Component.{Component}
 use Rattle.vx_plan.specs.Components.{component_named, is_source, is_transform}
 use Rattle.vx_record.specs.declared.instance.Instance.{Instance}
@@ -14,7 +14,7 @@ use Rattle.vx_record.specs.declared.entry.Entry.{Entry}
 use Rattle.vx_record.specs.declared.entry.Entry.TheVariants.{Install, Lease, Home, Read, Born, Answer, Retired}
 use Rattle.vx_record.specs.Copies.{count}
 use Rattle.vx_record.specs.Turns.{is_out}
-use Rattle.vx_record.specs.Installs.{Wiring, wiring, name_at, is_new, started, told, source_at, transform_at, is_retired}
+use Rattle.vx_record.specs.Installs.{Wiring, wiring, name_at, is_new, started, component_or, source_at, transform_at, is_retired}
 use Rattle.vx_record.specs.Starting.{first_instances}
 use Rattle.vx_record.specs.Sourcing.{Yield, yield_of, yield}
 use Rattle.vx_record.specs.Legal.{IsLegal}
@@ -22,15 +22,15 @@ use Rattle.vx_record.proofs.Counts.{count-append}
 use Rattle.vx_record.proofs.OnePlace.{conserved}
 use Rattle.vx_record.proofs.Answerers.{source_untransforming, answerer, unanswering}
 use Rattle.vx_record.proofs.Bare.{retired_bare}
-use Rattle.vx_record.proofs.Vacant.{Sent, bears, puts_out, bare_sent, sent_on}
+use Rattle.vx_record.proofs.Vacant.{Sent, creates, puts_out, bare_sent, sent_on}
 
 -- what a wiring tells
-abbrev pub told_by : {X : Type 0} → X → (Component → X) → Option Wiring → X
-told_by none f o = elim (elim o as (λ (x : Option Wiring). Option Component) [ None ↦ None | Some w ↦ component_named w.plan w.name ]) [ None ↦ none | Some c ↦ f c ]
+abbrev pub observe : {X : Type 0} → X → (Component → X) → Option Wiring → X
+observe none f o = elim (elim o as (λ (x : Option Wiring). Option Component) [ None ↦ None | Some w ↦ component_named w.plan w.name ]) [ None ↦ none | Some c ↦ f c ]
 
 -- two instances with one wiring are told the same
-pub same_told : {X : Type 0} (none : X) (f : Component → X) (h k : Record) (i : ℕ) → wiring h i ≡ wiring k i → told none f h i ≡ told none f k i
-same_told none f h k i same = ap (told_by none f) same
+pub same_component_or : {X : Type 0} (none : X) (f : Component → X) (h k : Record) (i : ℕ) → wiring h i ≡ wiring k i → component_or none f h i ≡ component_or none f k i
+same_component_or none f h k i same = ap (observe none f) same
 
 -- WHO IS STARTED
 -- what holds of all holds of each
@@ -54,7 +54,7 @@ none_among test (x ∷ xs) i none some = go (x == i) (test x) refl refl none som
     go false false is at e l rest = rest e (omega (arith, l))
 
 -- whoever the first Install gives a name it starts
-named_new : (from : ℕ) (components : List Component) (i : ℕ) (name : Word) → name_at (first_instances from components) i ≡ Some name →
+named_new : (from : ℕ) (components : List Component) (i : ℕ) (name : ByteString) → name_at (first_instances from components) i ≡ Some name →
     0 < count i (map (λ (instance : Instance). instance.number) (filter is_new (first_instances from components)))
 named_new from [] i name is = cc
 named_new from (c ∷ rest) i name is = go (from == i) is (named_new (from + 1) rest i name)
@@ -66,33 +66,33 @@ named_new from (c ∷ rest) i name is = go (from == i) is (named_new (from + 1) 
     go false e later = let l = later e in omega (arith, l)
 
 -- whoever runs a component is started
-pub started_told : (h : Record) (i : ℕ) (f : Component → Bool) → IsLegal h → told false f h i ≡ true → 0 < count i (started h)
-started_told [] i f legal is = cc
-started_told (Install version plan once instances now ∷ h) i f legal is = go (name_at instances i) refl
+pub started_component_or : (h : Record) (i : ℕ) (f : Component → Bool) → IsLegal h → component_or false f h i ≡ true → 0 < count i (started h)
+started_component_or [] i f legal is = cc
+started_component_or (Install version plan once instances now ∷ h) i f legal is = go (name_at instances i) refl
   where
     numbers : List Instance → List ℕ
     numbers all = map (λ (instance : Instance). instance.number) (filter is_new all)
 
-    named : (name : Word) → name_at instances i ≡ Some name → 0 < count i (numbers instances)
+    named : (name : ByteString) → name_at instances i ≡ Some name → 0 < count i (numbers instances)
     named name e =
         subst (λ (all : List Instance). 0 < count i (map (λ (instance : Instance). instance.number) (filter is_new all))) (sym legal.0.row.all_new)
         (named_new 0 plan.components i name (subst (λ (all : List Instance). name_at all i ≡ Some name) legal.0.row.all_new e))
 
-    go : (o : Option Word) → name_at instances i ≡ o → 0 < count i (started (Install version plan once instances now ∷ h))
+    go : (o : Option ByteString) → name_at instances i ≡ o → 0 < count i (started (Install version plan once instances now ∷ h))
     go (Some name) e =
         let more = named name e in
         let all = count-append i (started h) (numbers instances) in
         omega (arith, more, all)
     go None e =
         let same : wiring (Install version plan once instances now ∷ h) i ≡ wiring [] i =
-        ap (λ (o : Option Word). elim o [ None ↦ wiring h i | Some name ↦ Some (record { plan = plan; once = once; instances = instances; name = name }) ]) e ∙ ap (λ (k : Record). wiring k i) legal.0.row.first in
-        let no : false ≡ true = sym (same_told false f (Install version plan once instances now ∷ h) [] i same) ∙ is in cc
-started_told (e ∷ h) i f legal is =
-    let l = started_told h i f legal.1 is in
+        ap (λ (o : Option ByteString). elim o [ None ↦ wiring h i | Some name ↦ Some (record { plan = plan; once = once; instances = instances; name = name }) ]) e ∙ ap (λ (k : Record). wiring k i) legal.0.row.first in
+        let no : false ≡ true = sym (same_component_or false f (Install version plan once instances now ∷ h) [] i same) ∙ is in cc
+started_component_or (e ∷ h) i f legal is =
+    let l = started_component_or h i f legal.1 is in
     let all = count-append i (started h) [] in
     omega (arith, l, all)
 
--- WHO BEARS
+-- WHO CREATES BATCHES
 -- an Install begins the record
 abbrev pub installs : Entry → Bool
 installs (Install version plan once instances now) = true
@@ -108,11 +108,11 @@ started_same (Install version plan once instances now) h off = cc
 started_same e h off = append-nil (started h)
 
 pub source_same : (e : Entry) (h : Record) (i : ℕ) → installs e ≡ false → source_at (e ∷ h) i ≡ source_at h i
-source_same e h i off = same_told false is_source (e ∷ h) h i (wired_same e h i off)
+source_same e h i off = same_component_or false is_source (e ∷ h) h i (wired_same e h i off)
 
 -- where a component runs no Install comes
-pub uninstalled : (e : Entry) (h : Record) (i : ℕ) (f : Component → Bool) → IsLegal (e ∷ h) → told false f h i ≡ true → installs e ≡ false
-uninstalled (Install version plan once instances now) h i f legal is = let no : told false f [] i ≡ true = subst (λ (k : Record). told false f k i ≡ true) legal.0.row.first is in cc
+pub uninstalled : (e : Entry) (h : Record) (i : ℕ) (f : Component → Bool) → IsLegal (e ∷ h) → component_or false f h i ≡ true → installs e ≡ false
+uninstalled (Install version plan once instances now) h i f legal is = let no : component_or false f [] i ≡ true = subst (λ (k : Record). component_or false f k i ≡ true) legal.0.row.first is in cc
 uninstalled e h i f legal is = refl
 
 -- a Read yields what is its own
@@ -123,12 +123,12 @@ reader h j stream took i y is = go (j == i) refl is
     go true own is = eqb-true j i own
     go false own is = cc
 
--- who bears a batch is a source, and out
-pub bearer : (h : Record) (i : ℕ) (y : Yield) → IsLegal h → yield h i ≡ Some y → (source_at h i ≡ true) × (is_out h i ≡ true)
-bearer (Read j stream took ∷ h) i y legal is =
+-- who creates a batch is a source, and out
+pub creator : (h : Record) (i : ℕ) (y : Yield) → IsLegal h → yield h i ≡ Some y → (source_at h i ≡ true) × (is_out h i ≡ true)
+creator (Read j stream took ∷ h) i y legal is =
     let same : j ≡ i = reader h j stream took i y is in
     (subst (λ (k : ℕ). source_at h k ≡ true) same legal.0.row.turn.source, subst (λ (k : ℕ). is_out h k ≡ true) same legal.0.row.turn.out)
-bearer h i y legal is = cc
+creator h i y legal is = cc
 
 -- an instance of which neither this nor that it is a transform, and out, can be said puts nothing out
 unput_by : (h : Record) (e : Entry) (i : ℕ) → IsLegal (e ∷ h) → (is_out h i ≡ true → (source_at h i ≡ true) ⊎ (transform_at h i ≡ true) → ⊥) → puts_out i e ≡ false
@@ -137,7 +137,7 @@ unput_by h (Born j b place copies events waits stream end) i legal never = go (j
     go : (b : Bool) → (j == i) ≡ b → b ≡ false
     go true is =
         let same : j ≡ i = eqb-true j i is in
-        let of = bearer h j _ legal.1 legal.0.row.yields in
+        let of = creator h j _ legal.1 legal.0.row.yields in
         absurd (never (subst (λ (k : ℕ). is_out h k ≡ true) same of.1) (inl (subst (λ (k : ℕ). source_at h k ≡ true) same of.0)))
     go false is = refl
 unput_by h (Answer j made discarded kept) i legal never = go (j == i) refl
@@ -157,50 +157,50 @@ unput_other h e i legal off other = unput_by h e i legal (λ out. never)
     never (inl is) = let no : true ≡ false = sym is ∙ off in cc
     never (inr is) = let no : true ≡ false = sym is ∙ other in cc
 
--- nor does a source that bears nothing
-pub unput_source : (h : Record) (e : Entry) (i : ℕ) → IsLegal (e ∷ h) → source_at h i ≡ true → bears i e ≡ false → puts_out i e ≡ false
+-- nor does a source that creates no batch
+pub unput_source : (h : Record) (e : Entry) (i : ℕ) → IsLegal (e ∷ h) → source_at h i ≡ true → creates i e ≡ false → puts_out i e ≡ false
 unput_source h (Answer j made discarded kept) i legal is off = unanswering h i j made discarded kept legal (source_untransforming h i is)
 unput_source h e i legal is off = off
 
 -- who runs no such component ran none before
-told_before : (e : Entry) (h : Record) (i : ℕ) (f : Component → Bool) → IsLegal (e ∷ h) → told false f (e ∷ h) i ≡ false → told false f h i ≡ false
-told_before (Install version plan once instances now) h i f legal off = ap (λ (k : Record). told false f k i) legal.0.row.first
-told_before e h i f legal off = off
+component_or_before : (e : Entry) (h : Record) (i : ℕ) (f : Component → Bool) → IsLegal (e ∷ h) → component_or false f (e ∷ h) i ≡ false → component_or false f h i ≡ false
+component_or_before (Install version plan once instances now) h i f legal off = ap (λ (k : Record). component_or false f k i) legal.0.row.first
+component_or_before e h i f legal off = off
 
 -- so only sources and transforms send
 pub other_sent : (h : Record) (i : ℕ) → IsLegal h → source_at h i ≡ false → transform_at h i ≡ false → Sent h i
 other_sent [] i legal off other = record { put_out = refl; waits = λ t. refl }
 other_sent (e ∷ h) i legal off other =
-    let no_source = told_before e h i is_source legal off in
-    let no_transform = told_before e h i is_transform legal other in
+    let no_source = component_or_before e h i is_source legal off in
+    let no_transform = component_or_before e h i is_transform legal other in
     sent_on h e i (conserved (e ∷ h) legal) (unput_other h e i legal no_source no_transform) (other_sent h i legal.1 no_source no_transform)
 
 -- WHO IS RETIRED
--- who is retired is at home
-pub retired_home : (h : Record) (i : ℕ) → IsLegal h → is_retired h i ≡ true → is_out h i ≡ false
-retired_home [] i legal is = cc
-retired_home (Lease j worker now polls ∷ h) i legal is = go (j == i) refl (retired_home h i legal.1 is)
+-- who is retired is unleased
+pub retired_unleased : (h : Record) (i : ℕ) → IsLegal h → is_retired h i ≡ true → is_out h i ≡ false
+retired_unleased [] i legal is = cc
+retired_unleased (Lease j worker now polls ∷ h) i legal is = go (j == i) refl (retired_unleased h i legal.1 is)
   where
     go : (b : Bool) → (j == i) ≡ b → is_out h i ≡ false → (if b then true else is_out h i) ≡ false
     go true here rest =
         let same : j ≡ i = eqb-true j i here in
         let no : true ≡ false = sym is ∙ subst (λ (k : ℕ). is_retired h k ≡ false) same legal.0.row.unretired in cc
     go false here rest = rest
-retired_home (Home j ∷ h) i legal is = go (j == i) (retired_home h i legal.1 is)
+retired_unleased (Home j ∷ h) i legal is = go (j == i) (retired_unleased h i legal.1 is)
   where
     go : (b : Bool) → is_out h i ≡ false → (if b then false else is_out h i) ≡ false
     go true rest = refl
     go false rest = rest
-retired_home (Retired j ∷ h) i legal is = go (j == i) refl is (retired_home h i legal.1)
+retired_unleased (Retired j ∷ h) i legal is = go (j == i) refl is (retired_unleased h i legal.1)
   where
     go : (b : Bool) → (j == i) ≡ b → (b || is_retired h i) ≡ true → (is_retired h i ≡ true → is_out h i ≡ false) → is_out h i ≡ false
-    go true here e rest = let same : j ≡ i = eqb-true j i here in subst (λ (k : ℕ). is_out h k ≡ false) same legal.0.row.home
+    go true here e rest = let same : j ≡ i = eqb-true j i here in subst (λ (k : ℕ). is_out h k ≡ false) same legal.0.row.unleased
     go false here e rest = rest e
-retired_home (e ∷ h) i legal is = retired_home h i legal.1 is
+retired_unleased (e ∷ h) i legal is = retired_unleased h i legal.1 is
 
 -- and puts nothing out
 unput_retired : (h : Record) (e : Entry) (i : ℕ) → IsLegal (e ∷ h) → is_retired h i ≡ true → puts_out i e ≡ false
-unput_retired h e i legal is = unput_by h e i legal (λ out of. let no : true ≡ false = sym out ∙ retired_home h i legal.1 is in cc)
+unput_retired h e i legal is = unput_by h e i legal (λ out of. let no : true ≡ false = sym out ∙ retired_unleased h i legal.1 is in cc)
 
 -- so nothing that a retired instance put out stands anywhere
 pub retired_sent : (h : Record) (i : ℕ) → IsLegal h → is_retired h i ≡ true → Sent h i

@@ -20,7 +20,7 @@ use Rattle.vx_record.specs.ShiftLaws.{EntryShifts, StandsAt}
 use Rattle.vx_record.proofs.OnePlace.{conserved}
 use Rattle.vx_record.proofs.Changes.{none_empty, shrunk-none, same_place_is, places_meant}
 use Rattle.vx_record.proofs.Entries.{push_pops, push_grows, push_stays, take_pops, take_grows, take_stays, split_pops, split_grows, answer_shrinks, answer_grows, answer_stays, spent_shrinks, born_grows, born_stays, split_stays}
-use Rattle.vx_record.proofs.Hands.{stands_still, places_few}
+use Rattle.vx_record.proofs.HeldCopies.{stands_still, places_few}
 
 -- what holds at one place holds at the same
 moved : (P : Place → Type 0) (p q : Place) → same_place p q ≡ true → P p → P q

@@ -1,4 +1,4 @@
--- A source that is done stays done until it bears or confirms.
+-- A source that is done stays done until it creates a batch or confirms.
 use Rattle.std.proofs.Common.{◌≡◌, ℕ, ◌+◌, ◌<◌, Bool, true, false, cond, List, [], ◌∷◌, ◌++◌, Option, Some, None, refl, sym, ap, subst, ◌∙◌, arith, length, map}
 use Rattle.std.specs.Prelude.{◌==◌, ◌&&◌, ◌||◌, not, nat_lt, take_while, if◌then◌else◌}
 use Rattle.std.specs.List.{list_any, list_all}
@@ -30,11 +30,11 @@ use Rattle.vx_record.proofs.OnePlace.{conserved}
 use Rattle.vx_record.proofs.Dues.{awaits}
 use Rattle.vx_record.proofs.Notices.{noticed}
 use Rattle.vx_record.proofs.LegalNotices.{accounted}
-use Rattle.vx_record.proofs.Vacant.{Sent, bears, sent_of, is_sent_of, sent_on}
+use Rattle.vx_record.proofs.Vacant.{Sent, creates, sent_of, is_sent_of, sent_on}
 use Rattle.vx_record.proofs.Answerers.{source_untransforming, unanswering}
 use Rattle.vx_record.proofs.Turning.{turn_undry}
 use Rattle.vx_record.proofs.Drying.{dry_on}
-use Rattle.vx_record.proofs.Senders.{unput_source, installs, same_told, uninstalled, wired_same, source_same}
+use Rattle.vx_record.proofs.Senders.{unput_source, installs, same_component_or, uninstalled, wired_same, source_same}
 
 -- what a source has where it is done
 pub record SourceDone (h : Record) (i : ℕ) : Type 0 where
@@ -95,8 +95,8 @@ done_source h i is =
     ∙ all_five (is_dry h i) (owes h i) (is_sent h i) (all_noticed h i) (is_confirm_due h i) is.dry is.settled (is_sent_of h i is.sent) is.noticed is.undue
 
 -- WHAT IT OWES
--- its births stay until it bears
-births_same : (e : Entry) (h : Record) (i : ℕ) → bears i e ≡ false → births (e ∷ h) i ≡ births h i
+-- its births stay until it creates a batch
+births_same : (e : Entry) (h : Record) (i : ℕ) → creates i e ≡ false → births (e ∷ h) i ≡ births h i
 births_same (Born j b place copies events waits stream end) h i off =
     ap (λ (t : Bool). births h i ++ (if t then record { batch = b; waits = waits; stream = stream; end = end } ∷ [] else [])) off ∙ append-nil (births h i)
 births_same e h i off = append-nil (births h i)
@@ -149,7 +149,7 @@ source_discards (Answer j made discarded kept ∷ h) i legal is =
 source_discards (e ∷ h) i legal is = source_discards h i legal.1 is
 
 -- so it owes nothing more
-settled_on : (h : Record) (e : Entry) (i : ℕ) → IsLegal (e ∷ h) → bears i e ≡ false → source_at (e ∷ h) i ≡ true → is_dry h i ≡ true → owes h i ≡ false → owes (e ∷ h) i ≡ false
+settled_on : (h : Record) (e : Entry) (i : ℕ) → IsLegal (e ∷ h) → creates i e ≡ false → source_at (e ∷ h) i ≡ true → is_dry h i ≡ true → owes h i ≡ false → owes (e ∷ h) i ≡ false
 settled_on h e i legal off is dry settled =
     or_from (owes_birth (e ∷ h) i || owes_spends_in (e ∷ h) (e ∷ h) i || owes_discards (e ∷ h) i) (owes_answer (e ∷ h) i)
     (or_from (owes_birth (e ∷ h) i || owes_spends_in (e ∷ h) (e ∷ h) i) (owes_discards (e ∷ h) i)
@@ -179,7 +179,7 @@ each_noticed e h (b ∷ bs) all =
     (noticed_more e h b.batch ((and_parts (is_noticed h b.batch) (list_all (λ (birth : Birth). is_noticed h birth.batch) bs) all).0))
     (each_noticed e h bs ((and_parts (is_noticed h b.batch) (list_all (λ (birth : Birth). is_noticed h birth.batch) bs) all).1))
 
-noticed_on : (h : Record) (e : Entry) (i : ℕ) → bears i e ≡ false → all_noticed h i ≡ true → all_noticed (e ∷ h) i ≡ true
+noticed_on : (h : Record) (e : Entry) (i : ℕ) → creates i e ≡ false → all_noticed h i ≡ true → all_noticed (e ∷ h) i ≡ true
 noticed_on h e i off all =
     ap (λ (bs : List Birth). list_all (λ (birth : Birth). is_noticed (e ∷ h) birth.batch) bs) (births_same e h i off) ∙ each_noticed e h (births h i) all
 
@@ -206,14 +206,14 @@ unnoticed h b status legal = go (is_noticed h b) refl
     go false is = refl
 
 -- so a further notice tells nothing of batches that have theirs
-told_same : (h : Record) (b : ℕ) (status : BatchStatus) (bs : List Birth) → is_noticed h b ≡ false → list_all (λ (birth : Birth). is_noticed h birth.batch) bs ≡ true →
+observed_same : (h : Record) (b : ℕ) (status : BatchStatus) (bs : List Birth) → is_noticed h b ≡ false → list_all (λ (birth : Birth). is_noticed h birth.batch) bs ≡ true →
     take_while (λ (birth : Birth). not birth.waits || was_delivered (Notice b status ∷ h) birth.batch) bs ≡ take_while (λ (birth : Birth). not birth.waits || was_delivered h birth.batch) bs
-told_same h b status [] none all = refl
-told_same h b status (x ∷ bs) none all =
+observed_same h b status [] none all = refl
+observed_same h b status (x ∷ bs) none all =
     take_while-cons (λ (birth : Birth). not birth.waits || was_delivered (Notice b status ∷ h) birth.batch) x bs
     ∙ ap (λ (t : Bool). cond (not x.waits || ((t && is_delivered status) || was_delivered h x.batch)) (x ∷ take_while (λ (birth : Birth). not birth.waits || was_delivered (Notice b status ∷ h) birth.batch) bs) []) (other (b == x.batch) refl)
     ∙ ap (λ (run : List Birth). cond (not x.waits || was_delivered h x.batch) (x ∷ run) [])
-    (told_same h b status bs none ((and_parts (is_noticed h x.batch) (list_all (λ (birth : Birth). is_noticed h birth.batch) bs) all).1))
+    (observed_same h b status bs none ((and_parts (is_noticed h x.batch) (list_all (λ (birth : Birth). is_noticed h birth.batch) bs) all).1))
     ∙ sym (take_while-cons (λ (birth : Birth). not birth.waits || was_delivered h birth.batch) x bs)
   where
     other : (t : Bool) → (b == x.batch) ≡ t → t ≡ false
@@ -224,10 +224,10 @@ told_same h b status (x ∷ bs) none all =
     other false is = refl
 
 -- and what may be confirmed stays
-prefix_same : (h : Record) (e : Entry) (i : ℕ) → IsLegal (e ∷ h) → bears i e ≡ false → all_noticed h i ≡ true → confirm_prefix (e ∷ h) i ≡ confirm_prefix h i
+prefix_same : (h : Record) (e : Entry) (i : ℕ) → IsLegal (e ∷ h) → creates i e ≡ false → all_noticed h i ≡ true → confirm_prefix (e ∷ h) i ≡ confirm_prefix h i
 prefix_same h (Notice b status) i legal off all =
     ap (λ (bs : List Birth). take_while (λ (birth : Birth). not birth.waits || was_delivered (Notice b status ∷ h) birth.batch) bs) (append-nil (births h i))
-    ∙ told_same h b status (births h i) (unnoticed h b status legal) all
+    ∙ observed_same h b status (births h i) (unnoticed h b status legal) all
 prefix_same h e i legal off all = ap (λ (bs : List Birth). take_while (λ (birth : Birth). not birth.waits || was_delivered h birth.batch) bs) (births_same e h i off)
 
 -- as what was confirmed does until it confirms
@@ -236,15 +236,15 @@ last_same (Confirm j positions made) h i off = ap (λ (b : Bool). if b then posi
 last_same e h i off = refl
 
 -- so nothing more is due
-undue_on : (h : Record) (e : Entry) (i : ℕ) → IsLegal (e ∷ h) → installs e ≡ false → bears i e ≡ false → is_confirm_of i e ≡ false → all_noticed h i ≡ true → is_confirm_due h i ≡ false → is_confirm_due (e ∷ h) i ≡ false
+undue_on : (h : Record) (e : Entry) (i : ℕ) → IsLegal (e ∷ h) → installs e ≡ false → creates i e ≡ false → is_confirm_of i e ≡ false → all_noticed h i ≡ true → is_confirm_due h i ≡ false → is_confirm_due (e ∷ h) i ≡ false
 undue_on h e i legal kept off unconfirmed all undue =
-    ap (λ (b : Bool). b && not (is_empty (due (e ∷ h) i)) && not (same_positions (due (e ∷ h) i) (last_confirm (e ∷ h) i))) (same_told false (λ (c : Component). has_device c.settings) (e ∷ h) h i (wired_same e h i kept))
+    ap (λ (b : Bool). b && not (is_empty (due (e ∷ h) i)) && not (same_positions (due (e ∷ h) i) (last_confirm (e ∷ h) i))) (same_component_or false (λ (c : Component). has_device c.settings) (e ∷ h) h i (wired_same e h i kept))
     ∙ ap (λ (run : List Birth). device_at h i && not (is_empty (last_of_each [] (map position_of run))) && not (same_positions (last_of_each [] (map position_of run)) (last_confirm (e ∷ h) i))) (prefix_same h e i legal off all)
     ∙ ap (λ (ps : List Position). device_at h i && not (is_empty (due h i)) && not (same_positions (due h i) ps)) (last_same e h i unconfirmed)
     ∙ undue
 
 -- ONE MORE ENTRY
-pub source_on : (h : Record) (e : Entry) (i : ℕ) → IsLegal (e ∷ h) → bears i e ≡ false → is_confirm_of i e ≡ false → SourceDone h i → SourceDone (e ∷ h) i
+pub source_on : (h : Record) (e : Entry) (i : ℕ) → IsLegal (e ∷ h) → creates i e ≡ false → is_confirm_of i e ≡ false → SourceDone h i → SourceDone (e ∷ h) i
 source_on h e i legal off unconfirmed done =
     let kept = uninstalled e h i is_source legal done.source in
     let is = source_same e h i kept ∙ done.source in

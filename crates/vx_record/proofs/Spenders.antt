@@ -20,14 +20,14 @@ use Rattle.vx_record.proofs.Counts.{count-append}
 use Rattle.vx_record.proofs.Place.{count-oldest}
 use Rattle.vx_record.proofs.OnePlace.{conserved}
 use Rattle.vx_record.proofs.Entries.{take_grows}
-use Rattle.vx_record.proofs.Hands.{hand_is_live}
+use Rattle.vx_record.proofs.HeldCopies.{held_is_live}
 use Rattle.vx_record.proofs.Attempted.{joined_and_rest, count_shrunk, joined_more}
 use Rattle.vx_record.proofs.Mine.{others, ours}
 use Rattle.vx_record.proofs.Shifting.{entry_shifts, spent_none}
 
 -- LIVE AND TAKEN
 pub stands_live : (h : Record) (p : Place) (c : ℕ) → IsConserved h → 0 < count c (joined (parcels_at p (stands h))) → IsLive h c
-stands_live h p c kept l = hand_is_live h p (joined (parcels_at p (stands h))) kept (λ d k. k) c l
+stands_live h p c kept l = held_is_live h p (joined (parcels_at p (stands h))) kept (λ d k. k) c l
 
 live_before : (h : Record) (e : Entry) (c : ℕ) → IsLive (e ∷ h) c → c < next_copy h → IsLive h c
 live_before h e c live l =
@@ -59,8 +59,8 @@ took_made (e ∷ h) i c kept l =
     ]
 
 -- HELD OR PUT OUT
-abbrev at_hand : Record → ℕ → ℕ → ℕ
-at_hand h i c = count c (joined (held h i)) + count c (joined (outputs h i))
+abbrev held_or_put_out : Record → ℕ → ℕ → ℕ
+held_or_put_out h i c = count c (joined (held h i)) + count c (joined (outputs h i))
 
 count_oldest : (c : ℕ) (copies : List ℕ) (ps : List (List ℕ)) → IsOldest copies ps → count c (joined ps) ≡ count c copies + count c (joined (younger ps))
 count_oldest c copies [] first = absurd first
@@ -78,14 +78,14 @@ count_parcels c (output ∷ rest) =
     omega arith
 
 -- what an entry neither splits nor spends stays there
-hand_kept : (h : Record) (e : Entry) (i c : ℕ) → IsLegal (e ∷ h) → count c (splits e) ≡ 0 → count c (spends e) ≡ 0 → 0 < at_hand h i c →
+held_kept : (h : Record) (e : Entry) (i c : ℕ) → IsLegal (e ∷ h) → count c (splits e) ≡ 0 → count c (spends e) ≡ 0 → 0 < held_or_put_out h i c →
     0 < count c (joined (shift e (Held i) (held h i))) + count c (joined (shift e (Outputs i) (outputs h i)))
-hand_kept h (Born j b place copies events waits stream end) i c legal unsplit unspent some = go (j == i)
+held_kept h (Born j b place copies events waits stream end) i c legal unsplit unspent some = go (j == i)
   where
     go : (t : Bool) → 0 < count c (joined (held h i)) + count c (joined (if t then outputs h i ++ singles copies else outputs h i))
     go true = let m = joined_more c (outputs h i) (singles copies) in omega arith
     go false = some
-hand_kept h (Split j ports copies event children) i c legal unsplit unspent some = go (j == i) refl
+held_kept h (Split j ports copies event children) i c legal unsplit unspent some = go (j == i) refl
   where
     go : (t : Bool) → (j == i) ≡ t → 0 < count c (joined (held h i)) + count c (joined (if t then younger (outputs h i) else outputs h i))
     go true is =
@@ -93,12 +93,12 @@ hand_kept h (Split j ports copies event children) i c legal unsplit unspent some
         let n = count_oldest c copies (outputs h i) first in
         omega arith
     go false is = some
-hand_kept h (Take j s copies) i c legal unsplit unspent some = go (j == i)
+held_kept h (Take j s copies) i c legal unsplit unspent some = go (j == i)
   where
     go : (t : Bool) → 0 < count c (joined (if t then held h i ++ copies ∷ [] else held h i)) + count c (joined (outputs h i))
     go true = let m = joined_more c (held h i) (copies ∷ []) in omega arith
     go false = some
-hand_kept h (Answer j made discarded rest) i c legal unsplit unspent some = go (j == i)
+held_kept h (Answer j made discarded rest) i c legal unsplit unspent some = go (j == i)
   where
     go : (t : Bool) → 0 < count c (joined (if t then shrunk (put_out made) (held h i) else held h i)) + count c (joined (if t then outputs h i ++ parcels_of made else outputs h i))
     go true =
@@ -109,7 +109,7 @@ hand_kept h (Answer j made discarded rest) i c legal unsplit unspent some = go (
           | inr none ↦ let s = count_shrunk c (put_out made) (held h i) (omega arith) in omega arith
         ]
     go false = some
-hand_kept h (Spent j d outcome) i c legal unsplit unspent some = go (j == i)
+held_kept h (Spent j d outcome) i c legal unsplit unspent some = go (j == i)
   where
     go : (t : Bool) → 0 < count c (joined (if t then shrunk (d ∷ []) (held h i) else held h i)) + count c (joined (if t then shrunk (d ∷ []) (outputs h i) else outputs h i))
     go true =
@@ -117,23 +117,23 @@ hand_kept h (Spent j d outcome) i c legal unsplit unspent some = go (j == i)
         let b = count_shrunk c (d ∷ []) (outputs h i) unspent in
         omega arith
     go false = some
-hand_kept h e i c legal unsplit unspent some = some
+held_kept h e i c legal unsplit unspent some = some
 
-hand_on : (h : Record) (e : Entry) (i c : ℕ) → IsLegal (e ∷ h) → IsLive (e ∷ h) c → 0 < at_hand h i c → 0 < at_hand (e ∷ h) i c
-hand_on h e i c legal live some =
+held_goes_on : (h : Record) (e : Entry) (i c : ℕ) → IsLegal (e ∷ h) → IsLive (e ∷ h) c → 0 < held_or_put_out h i c → 0 < held_or_put_out (e ∷ h) i c
+held_goes_on h e i c legal live some =
     let x = live.1 in
     let y = live.2 in
     let s = count-append c (all_of splits h) (splits e) in
     let t = count-append c (all_of spends h) (spends e) in
     let a = ap (λ (ps : List (List ℕ)). count c (joined ps)) (entry_shifts h e (Held i) legal) in
     let b = ap (λ (ps : List (List ℕ)). count c (joined ps)) (entry_shifts h e (Outputs i) legal) in
-    let k = hand_kept h e i c legal (omega arith) (omega arith) some in
+    let k = held_kept h e i c legal (omega arith) (omega arith) some in
     omega arith
 
-taken_now : (h : Record) (e : Entry) (i c : ℕ) → IsLegal (e ∷ h) → 0 < count c (took_in i e) → 0 < at_hand (e ∷ h) i c
+taken_now : (h : Record) (e : Entry) (i c : ℕ) → IsLegal (e ∷ h) → 0 < count c (took_in i e) → 0 < held_or_put_out (e ∷ h) i c
 taken_now h (Take j s copies) i c legal l = go (j == i) refl l
   where
-    go : (t : Bool) → (j == i) ≡ t → 0 < count c (if t then copies else []) → 0 < at_hand (Take j s copies ∷ h) i c
+    go : (t : Bool) → (j == i) ≡ t → 0 < count c (if t then copies else []) → 0 < held_or_put_out (Take j s copies ∷ h) i c
     go true is some =
         let grown : held (Take j s copies ∷ h) i ≡ held h i ++ copies ∷ [] =
         subst (λ (k : ℕ). held (Take j s copies ∷ h) k ≡ held h k ++ copies ∷ []) (eqb-true j i is) (take_grows h j s copies (conserved (Take j s copies ∷ h) legal)) in
@@ -145,14 +145,14 @@ taken_now h (Take j s copies) i c legal l = go (j == i) refl l
 taken_now h e i c legal l = absurd (omega arith)
 
 -- what an instance took and is live, it holds or put out
-at_his : (h : Record) (i c : ℕ) → IsLegal h → 0 < count c (took h i) → IsLive h c → 0 < at_hand h i c
+at_his : (h : Record) (i c : ℕ) → IsLegal h → 0 < count c (took h i) → IsLive h c → 0 < held_or_put_out h i c
 at_his [] i c legal l live = absurd (omega arith)
 at_his (e ∷ h) i c legal l live =
     let a = count-append c (took h i) (took_in i e) in
     elim (cases_lt 0 (count c (took h i))) [
       | inl before ↦
           let was : IsLive h c = live_before h e c live (took_made h i c (conserved h legal.1) before) in
-          hand_on h e i c legal live (at_his h i c legal.1 before was)
+          held_goes_on h e i c legal live (at_his h i c legal.1 before was)
       | inr none ↦ taken_now h e i c legal (omega arith)
     ]
 

@@ -14,7 +14,7 @@ use Rattle.vx_record.specs.Shifts.{at}
 use Rattle.vx_record.specs.Legal.{Follows, IsLegal}
 use Rattle.vx_record.specs.Tasks.{is_of, mine, out_to, IsOwn}
 use Rattle.vx_record.specs.Makers.{maker, IsBy, IsByOther, IsByNone, IsFor, Spares, IsOfNone}
-use Rattle.vx_record.specs.TaskLaws.{OutToWorker, LeasedFromHome, OutMadeBy, OthersSpare, WorkersSpare, NoneSpares, TasksSpare, TasklessSpares, SparedStays, TasksOut}
+use Rattle.vx_record.specs.TaskLaws.{OutToWorker, LeasedWhenUnleased, OutMadeBy, OthersSpare, WorkersSpare, NoneSpares, TasksSpare, TasklessSpares, SparedStays, TasksOut}
 use Rattle.vx_record.proofs.Mine.{others}
 use Rattle.vx_record.proofs.OwnTurns.{worker_apart, worker_own, out_own}
 use Rattle.vx_record.proofs.OwnReads.{taken_own, ended_own}
@@ -40,17 +40,17 @@ none_of : (o : Option ℕ) → is_some o ≡ false → o ≡ None
 none_of None is = refl
 none_of (Some worker) is = cc
 
--- what is at home is out to nobody
-home_none : (h : Record) (i : ℕ) → is_out h i ≡ false → out_to h i ≡ None
-home_none h i home = none_of (out_to h i) (sym (out_to_worker h i) ∙ home)
+-- what is unleased is out to nobody
+unleased_none : (h : Record) (i : ℕ) → is_out h i ≡ false → out_to h i ≡ None
+unleased_none h i unleased = none_of (out_to h i) (sym (out_to_worker h i) ∙ unleased)
 
-pub leased_from_home : LeasedFromHome
-leased_from_home h i worker now polls legal = home_none h i legal.0.row.home
+pub leased_when_unleased : LeasedWhenUnleased
+leased_when_unleased h i worker now polls legal = unleased_none h i legal.0.row.unleased
 
--- so an entry that an instance makes only at home isn't made while it is out
-not_home : (h : Record) (j i worker : ℕ) → out_to h i ≡ Some worker → (j == i) ≡ true → is_out h j ≡ false → ⊥
-not_home h j i worker out is home =
-    let none : out_to h i ≡ None = subst (λ (k : ℕ). out_to h k ≡ None) (eqb-true j i is) (home_none h j home) in
+-- so an entry that an instance makes only unleased isn't made while it is out
+not_unleased : (h : Record) (j i worker : ℕ) → out_to h i ≡ Some worker → (j == i) ≡ true → is_out h j ≡ false → ⊥
+not_unleased h j i worker out is unleased =
+    let none : out_to h i ≡ None = subst (λ (k : ℕ). out_to h k ≡ None) (eqb-true j i is) (unleased_none h j unleased) in
     let no : None ≡ Some worker = sym none ∙ out in cc
 
 -- and the others are the worker's
@@ -59,14 +59,14 @@ its h j i worker out is = subst (λ (k : ℕ). out_to h k ≡ Some worker) (sym 
 
 made_by : (h : Record) (e : Entry) (i worker : ℕ) → Follows h e → out_to h i ≡ Some worker → is_of i e ≡ true → maker h e ≡ Some worker
 made_by h (Install version plan once instances now) i worker follows out is = cc
-made_by h (Lease j other now polls) i worker follows out is = absurd (not_home h j i worker out is follows.row.home)
+made_by h (Lease j other now polls) i worker follows out is = absurd (not_unleased h j i worker out is follows.row.unleased)
 made_by h (Home j) i worker follows out is = its h j i worker out is
 made_by h (Read j stream took) i worker follows out is = its h j i worker out is
 made_by h (Idle j failed) i worker follows out is = its h j i worker out is
 made_by h (SourceLost j after failed) i worker follows out is = its h j i worker out is
 made_by h (Born j b place copies events waits stream end) i worker follows out is = its h j i worker out is
-made_by h (Split j ports copies event children) i worker follows out is = absurd (not_home h j i worker out is follows.row.split.home)
-made_by h (Push j t s copies) i worker follows out is = absurd (not_home h j i worker out is follows.row.home)
+made_by h (Split j ports copies event children) i worker follows out is = absurd (not_unleased h j i worker out is follows.row.split.unleased)
+made_by h (Push j t s copies) i worker follows out is = absurd (not_unleased h j i worker out is follows.row.unleased)
 made_by h (Take j s copies) i worker follows out is = its h j i worker out is
 made_by h (Tick j now) i worker follows out is = its h j i worker out is
 made_by h (Answer j outputs discarded kept) i worker follows out is = its h j i worker out is
@@ -75,7 +75,7 @@ made_by h (Spent j c outcome) i worker follows out is = its h j i worker out is
 made_by h (Notice b status) i worker follows out is = cc
 made_by h (Confirm j positions made) i worker follows out is = its h j i worker out is
 made_by h (Closed j) i worker follows out is = its h j i worker out is
-made_by h (Retired j) i worker follows out is = absurd (not_home h j i worker out is follows.row.home)
+made_by h (Retired j) i worker follows out is = absurd (not_unleased h j i worker out is follows.row.unleased)
 made_by h (Abandon cause) i worker follows out is = cc
 
 pub out_made_by : OutMadeBy

@@ -45,29 +45,29 @@ loss_since (Idle j failed ∷ h) i none = loss_since h i (or_right (j == i) _ no
 loss_since (SourceLost j at failed ∷ h) i none = ap (λ (b : Bool). b || is_lost h i) (or_left (j == i) _ none) ∙ loss_since h i (or_right (j == i) _ none)
 loss_since (e ∷ h) i none = loss_since h i none
 
--- an instance was at home when it was leased
+-- an instance was unleased when it was leased
 was_out : (b c : Bool) → (if b then false else c) ≡ true → c ≡ true
 was_out true c e = cc
 was_out false c e = e
 
-pub home_lease : (h : Record) (i : ℕ) → IsLegal h → is_out h i ≡ true → is_out (at_lease h i) i ≡ false
-home_lease [] i legal out = cc
-home_lease (Lease j worker now polls ∷ h) i legal out = go (j == i) refl out (home_lease h i legal.1)
+pub unleased_lease : (h : Record) (i : ℕ) → IsLegal h → is_out h i ≡ true → is_out (at_lease h i) i ≡ false
+unleased_lease [] i legal out = cc
+unleased_lease (Lease j worker now polls ∷ h) i legal out = go (j == i) refl out (unleased_lease h i legal.1)
   where
     go : (b : Bool) → (j == i) ≡ b → (if b then true else is_out h i) ≡ true → (is_out h i ≡ true → is_out (at_lease h i) i ≡ false) → is_out (if b then h else at_lease h i) i ≡ false
-    go true e out rest = let same : j ≡ i = grind (arith, nat_tests) in subst (λ (k : ℕ). is_out h k ≡ false) same legal.0.row.home
+    go true e out rest = let same : j ≡ i = grind (arith, nat_tests) in subst (λ (k : ℕ). is_out h k ≡ false) same legal.0.row.unleased
     go false e out rest = rest out
-home_lease (Home j ∷ h) i legal out = home_lease h i legal.1 (was_out (j == i) (is_out h i) out)
-home_lease (e ∷ h) i legal out = home_lease h i legal.1 out
+unleased_lease (Home j ∷ h) i legal out = unleased_lease h i legal.1 (was_out (j == i) (is_out h i) out)
+unleased_lease (e ∷ h) i legal out = unleased_lease h i legal.1 out
 
--- a source at home that isn't dry doesn't drain, and was neither told the end of all nor lost
+-- an unleased source that isn't dry doesn't drain, and was neither told the end of all nor lost
 undrained : (s a l d o x : Bool) → (s && (a || l || (d && not (o && x)))) ≡ false → s ≡ true → o ≡ false → d ≡ false
-undrained s a l false o x dry is home = refl
-undrained false a l true o x dry is home = cc
-undrained true a l true true x dry is home = cc
-undrained true true l true false x dry is home = cc
-undrained true false true true false x dry is home = cc
-undrained true false false true false x dry is home = cc
+undrained s a l false o x dry is unleased = refl
+undrained false a l true o x dry is unleased = cc
+undrained true a l true true x dry is unleased = cc
+undrained true true l true false x dry is unleased = cc
+undrained true false true true false x dry is unleased = cc
+undrained true false false true false x dry is unleased = cc
 
 pub unended : (s a l d : Bool) → s ≡ true → (s && (a || l || d)) ≡ false → a ≡ false
 unended false a l d is dry = cc
@@ -77,7 +77,7 @@ unended true false l d is dry = refl
 pub undrained_lease : (h : Record) (i : ℕ) → IsLegal h → MayTurn h i → drains (at_lease h i) i ≡ false
 undrained_lease h i legal row =
     let k = at_lease h i in
-    undrained (source_at k i) (all_ended k i) (is_lost k i) (drains k i) (is_out k i) (not (drains (at_lease k i) i)) (undry_lease h i row) (source_lease h i legal row.out row.source) (home_lease h i legal row.out)
+    undrained (source_at k i) (all_ended k i) (is_lost k i) (drains k i) (is_out k i) (not (drains (at_lease k i) i)) (undry_lease h i row) (source_lease h i legal row.out row.source) (unleased_lease h i legal row.out)
 
 -- so it isn't dry where it takes its turn
 still_undry : (s a l d o x : Bool) → a ≡ false → l ≡ false → o ≡ true → x ≡ false → (s && (a || l || (d && not (o && not x)))) ≡ false

@@ -87,13 +87,13 @@ is_sent_of h i sent = and_from (is_empty (outputs h i)) (is_empty (all_waiting h
 -- nothing stands in its buffer or was taken from there
 pub record Unfilled (h : Record) (i : ℕ) : Type 0 where
   pub buffer : (s : ℕ) → contents h i s ≡ []
-  pub hands : held h i ≡ []
+  pub holdings : held h i ≡ []
 
 -- where the tests say so
 pub unfilled_of : (h : Record) (i : ℕ) → is_empty (buffered h i) ≡ true → is_empty (held h i) ≡ true → Unfilled h i
-unfilled_of h i none hands = record {
+unfilled_of h i none holdings = record {
   buffer = λ s. where_none (is_stage_of i) (stands h) none (Contents i s) (self i);
-  hands = empty_is (held h i) hands;
+  holdings = empty_is (held h i) holdings;
 }
 
 -- and then the buffer's does
@@ -114,7 +114,7 @@ bare_of h i sent none = none_where (λ (p : Place). owner p == i) (stands h) min
     mine (Outputs j) is = let same : j ≡ i = eqb-true j i is in subst (λ (k : ℕ). parcels_at (Outputs k) (stands h) ≡ []) (sym same) sent.put_out
     mine (Waiting j t) is = let same : j ≡ i = eqb-true j i is in subst (λ (k : ℕ). parcels_at (Waiting k t) (stands h) ≡ []) (sym same) (sent.waits t)
     mine (Contents j s) is = let same : j ≡ i = eqb-true j i is in subst (λ (k : ℕ). parcels_at (Contents k s) (stands h) ≡ []) (sym same) (none.buffer s)
-    mine (Held j) is = let same : j ≡ i = eqb-true j i is in subst (λ (k : ℕ). parcels_at (Held k) (stands h) ≡ []) (sym same) none.hands
+    mine (Held j) is = let same : j ≡ i = eqb-true j i is in subst (λ (k : ℕ). parcels_at (Held k) (stands h) ≡ []) (sym same) none.holdings
 
 -- and then it sent everything, and has nothing
 pub bare_sent : (h : Record) (i : ℕ) → is_bare h i ≡ true → Sent h i
@@ -126,7 +126,7 @@ bare_sent h i bare = record {
 pub bare_unfilled : (h : Record) (i : ℕ) → is_bare h i ≡ true → Unfilled h i
 bare_unfilled h i bare = record {
   buffer = λ s. where_none (λ (p : Place). owner p == i) (stands h) bare (Contents i s) (self i);
-  hands = where_none (λ (p : Place). owner p == i) (stands h) bare (Held i) (self i);
+  holdings = where_none (λ (p : Place). owner p == i) (stands h) bare (Held i) (self i);
 }
 
 -- ONE MORE ENTRY
@@ -134,10 +134,10 @@ bare_unfilled h i bare = record {
 none_after : (h : Record) (e : Entry) (p : Place) → IsConserved (e ∷ h) → put_at p (puts e) ≡ [] → parcels_at p (stands h) ≡ [] → parcels_at p (stands (e ∷ h)) ≡ []
 none_after h e p kept nothing none = parcels_after h e p kept ∙ ap (λ (ps : List (List ℕ)). shrunk (leaves (kind p) e) ps ++ put_at p (puts e)) none ∙ nothing
 
--- an entry that bears a batch of the instance
-abbrev pub bears : ℕ → Entry → Bool
-bears i (Born j b place copies events waits stream end) = j == i
-bears i other = false
+-- an entry that creates a batch of the instance
+abbrev pub creates : ℕ → Entry → Bool
+creates i (Born j b place copies events waits stream end) = j == i
+creates i other = false
 
 -- a birth puts at the outputs of its instance alone
 born_elsewhere : (p : Place) (j : ℕ) (copies : List ℕ) → same_place (Outputs j) p ≡ false → put_at p (one_each (Outputs j) copies) ≡ []
@@ -228,13 +228,13 @@ none_out (output ∷ rest) none = go output.copies none (none_out rest)
         absurd (omega (arith, no))
 
 -- and what holds nothing puts nothing out by its answers
-pub sent_empty : (h : Record) (e : Entry) (i : ℕ) → IsConserved (e ∷ h) → bears i e ≡ false → held h i ≡ [] → Sent h i → Sent (e ∷ h) i
-sent_empty h (Answer j made discarded remains) i kept off hands sent = go (j == i) refl
+pub sent_empty : (h : Record) (e : Entry) (i : ℕ) → IsConserved (e ∷ h) → creates i e ≡ false → held h i ≡ [] → Sent h i → Sent (e ∷ h) i
+sent_empty h (Answer j made discarded remains) i kept off holdings sent = go (j == i) refl
   where
     released : (j ≡ i) → (c : ℕ) → count c (put_out made) ≡ 0
     released same c =
         let most = kept.0 c in
-        let none : count c (joined (held h j)) ≡ 0 = subst (λ (k : ℕ). count c (joined (held h k)) ≡ 0) (sym same) (ap (λ (ps : List (List ℕ)). count c (joined ps)) hands) in
+        let none : count c (joined (held h j)) ≡ 0 = subst (λ (k : ℕ). count c (joined (held h k)) ≡ 0) (sym same) (ap (λ (ps : List (List ℕ)). count c (joined ps)) holdings) in
         omega (arith, most, none)
 
     go : (b : Bool) → (j == i) ≡ b → Sent (Answer j made discarded remains ∷ h) i
@@ -247,7 +247,7 @@ sent_empty h (Answer j made discarded remains) i kept off hands sent = go (j == 
           waits = λ t. waits_on h (Answer j made discarded remains) i t kept sent.put_out (sent.waits t);
         }
     go false other = sent_on h (Answer j made discarded remains) i kept other sent
-sent_empty h e i kept off hands sent = sent_on h e i kept off sent
+sent_empty h e i kept off holdings sent = sent_on h e i kept off sent
 
 -- an entry by which a parcel enters the instance's buffer
 abbrev pub enters : ℕ → Entry → Bool
@@ -280,23 +280,23 @@ contents_on h e i s kept off none = none_after h e (Contents i s) kept refl none
 -- and nothing is taken where no stage has anything
 held_on : (h : Record) (e : Entry) (i : ℕ) → IsConserved (e ∷ h) → Unfilled h i → held (e ∷ h) i ≡ []
 held_on h (Born j b place copies events waits stream end) i kept none =
-    none_after h (Born j b place copies events waits stream end) (Held i) kept (born_elsewhere (Held i) j copies refl) none.hands
+    none_after h (Born j b place copies events waits stream end) (Held i) kept (born_elsewhere (Held i) j copies refl) none.holdings
 held_on h (Split j ports copies event children) i kept none =
-    none_after h (Split j ports copies event children) (Held i) kept (split_elsewhere (Held i) j ports copies event children (λ t. refl)) none.hands
+    none_after h (Split j ports copies event children) (Held i) kept (split_elsewhere (Held i) j ports copies event children (λ t. refl)) none.holdings
 held_on h (Take j s copies) i kept none = go (j == i) refl
   where
     go : (b : Bool) → (j == i) ≡ b → held (Take j s copies ∷ h) i ≡ []
     go true is =
         let same : j ≡ i = eqb-true j i is in
         absurd (no_oldest copies (contents h j s) kept.0 (subst (λ (k : ℕ). contents h k s ≡ []) (sym same) (none.buffer s)))
-    go false is = none_after h (Take j s copies) (Held i) kept (ap (λ (b : Bool). if b then and_rest copies [] else []) is) none.hands
+    go false is = none_after h (Take j s copies) (Held i) kept (ap (λ (b : Bool). if b then and_rest copies [] else []) is) none.holdings
 held_on h (Answer j made discarded remains) i kept none =
-    none_after h (Answer j made discarded remains) (Held i) kept (answer_elsewhere (Held i) j made discarded remains refl) none.hands
-held_on h e i kept none = none_after h e (Held i) kept refl none.hands
+    none_after h (Answer j made discarded remains) (Held i) kept (answer_elsewhere (Held i) j made discarded remains refl) none.holdings
+held_on h e i kept none = none_after h e (Held i) kept refl none.holdings
 
 -- what has nothing has nothing until a parcel enters
 pub unfilled_on : (h : Record) (e : Entry) (i : ℕ) → IsConserved (e ∷ h) → enters i e ≡ false → Unfilled h i → Unfilled (e ∷ h) i
 unfilled_on h e i kept off none = record {
   buffer = λ s. contents_on h e i s kept off (none.buffer s);
-  hands = held_on h e i kept none;
+  holdings = held_on h e i kept none;
 }

@@ -2,7 +2,7 @@
 use Rattle.std.proofs.Common.{◌≡◌, ℕ, zero, suc, ◌+◌, Bool, false, List, [], ◌∷◌, Option, Some, None, refl, ap, subst, ◌∙◌, arith}
 use Rattle.std.specs.Prelude.{◌==◌, slice_get}
 use Rattle.std.proofs.lemmas.Bool.Decides.{nat_tests}
-use Rattle.vx_value.specs.Texts.{Word}
+use Rattle.vx_value.specs.Texts.{ByteString}
 use Rattle.vx_plan.specs.declared.plan.Plan.{Plan}
 use Rattle.vx_plan.specs.declared.component.Component.{Component}
 use Rattle.vx_plan.specs.Components.{component_named}
@@ -32,11 +32,11 @@ name_first components instances k c at are =
     ap (λ (is : List Instance). name_at is k) are ∙ ap (name_at (first_instances 0 components)) zero_on ∙ name_of_first 0 components k c at
 
 -- an instance that an Install names is wired by it
-named_wiring : (made : Plan) (once : Bool) (instances : List Instance) (name : Word) (o : Option Word) (w : Option Wiring) → o ≡ Some name →
+named_wiring : (made : Plan) (once : Bool) (instances : List Instance) (name : ByteString) (o : Option ByteString) (w : Option Wiring) → o ≡ Some name →
     ◌≡◌ {A = Option Wiring} (elim o [ None ↦ w | Some n ↦ Some (record { plan = made; once = once; instances = instances; name = n }) ]) (Some (record { plan = made; once = once; instances = instances; name = name }))
-named_wiring made once instances name o w is = ap (λ (x : Option Word). elim x [ None ↦ w | Some n ↦ Some (record { plan = made; once = once; instances = instances; name = n }) ]) is
+named_wiring made once instances name o w is = ap (λ (x : Option ByteString). elim x [ None ↦ w | Some n ↦ Some (record { plan = made; once = once; instances = instances; name = n }) ]) is
 
-same_wiring : (made plan : Plan) (once : Bool) (instances : List Instance) (name : Word) → instances ≡ first_instances 0 made.components → made ≡ plan →
+same_wiring : (made plan : Plan) (once : Bool) (instances : List Instance) (name : ByteString) → instances ≡ first_instances 0 made.components → made ≡ plan →
     ◌≡◌ {A = Option Wiring} (Some (record { plan = made; once = once; instances = instances; name = name })) (Some (record { plan = plan; once = once; instances = first_instances 0 plan.components; name = name }))
 same_wiring made plan once instances name are same =
     ap (λ (is : List Instance). Some (record { plan = made; once = once; instances = is; name = name })) are
@@ -84,7 +84,7 @@ unwired_past (Install version made once instances now ∷ h) plan i legal force 
     let zero_on : i ≡ 0 + i = omega arith in
     let none : name_at instances i ≡ None = ap (λ is. name_at is i) row.all_new ∙ ap (name_at (first_instances 0 made.components)) zero_on ∙ name_past 0 made.components i (ap (λ (p : Plan). slice_get p.components i) same ∙ past) in
     let kept : wiring (Install version made once instances now ∷ h) i ≡ wiring h i =
-    ap (λ (o : Option Word). elim o [ None ↦ wiring h i | Some name ↦ Some (record { plan = made; once = once; instances = instances; name = name }) ]) none in
+    ap (λ (o : Option ByteString). elim o [ None ↦ wiring h i | Some name ↦ Some (record { plan = made; once = once; instances = instances; name = name }) ]) none in
     kept ∙ ap (λ (k : Record). wiring k i) row.first
 unwired_past (e ∷ h) plan i legal force past = unwired_past h plan i legal.1 force past
 

@@ -4,7 +4,7 @@ use Rattle.std.specs.Prelude.{◌==◌, ◌&&◌, ◌||◌, not, map, slice_inde
 use Rattle.std.specs.List.{list_any, list_all}
 use Rattle.std.proofs.lemmas.Bool.{cases_lt, and_parts, and_from, or_parts, or_from, or_right, not-true, not-false, not_from_false, eqb-true, ne_eqb, eqb-false}
 use Rattle.std.proofs.lemmas.Bool.Decides.{nat_tests}
-use Rattle.vx_value.specs.Texts.{Word, is_empty}
+use Rattle.vx_value.specs.Texts.{ByteString, is_empty}
 use Rattle.vx_plan.specs.declared.component.Component.{Component}
 use Rattle.vx_plan.specs.Components.{component_named, is_source, is_transform, port_names}
 use Rattle.vx_plan.specs.Targets.{readers}
@@ -14,7 +14,7 @@ use Rattle.vx_record.specs.declared.entry.Entry.{Entry}
 use Rattle.vx_record.specs.declared.entry.Entry.TheVariants.{Split, Retired}
 use Rattle.vx_record.specs.Copies.{count, joined, contains, counting, children_of, next_copy}
 use Rattle.vx_record.specs.Places.Place.{Waiting}
-use Rattle.vx_record.specs.Installs.{Wiring, wiring, wired, component_of, told, source_at, transform_at, numbers_of, started, is_retired}
+use Rattle.vx_record.specs.Installs.{Wiring, wiring, wired, component_of, component_or, source_at, transform_at, numbers_of, started, is_retired}
 use Rattle.vx_record.specs.Lists.{and_rest, waiting, buffered, held}
 use Rattle.vx_record.specs.Moving.{IsConserved, children_for}
 use Rattle.vx_record.specs.Reads.{all_ended, is_lost}
@@ -28,13 +28,13 @@ use Rattle.vx_record.proofs.OnePlace.{conserved}
 use Rattle.vx_record.proofs.Entries.{split_grows, split_stays}
 use Rattle.vx_record.proofs.Ceasing.{unmarked}
 use Rattle.vx_record.proofs.FirstPort.{open_routes, split_read}
-use Rattle.vx_record.proofs.Vacant.{Sent, sent_empty, Unfilled, bears, empty_is, is_empty_of, sent_of, is_sent_of, sent_on, unfilled_of, unbuffered, unentered, unfilled_on, waits_still}
+use Rattle.vx_record.proofs.Vacant.{Sent, sent_empty, Unfilled, creates, empty_is, is_empty_of, sent_of, is_sent_of, sent_on, unfilled_of, unbuffered, unentered, unfilled_on, waits_still}
 use Rattle.vx_record.proofs.Drying.{dry_on}
-use Rattle.vx_record.proofs.Senders.{all_among, none_among, started_told, installs, same_told, uninstalled, wired_same, started_same, source_same, unput_source, other_sent, retired_sent}
+use Rattle.vx_record.proofs.Senders.{all_among, none_among, started_component_or, installs, same_component_or, uninstalled, wired_same, started_same, source_same, unput_source, other_sent, retired_sent}
 
 -- what an instance that takes in has where it is done
 pub record WorkerDone (h : Record) (i : ℕ) : Type 0 where
-  pub worker : told false (λ (c : Component). not (is_source c)) h i ≡ true
+  pub worker : component_or false (λ (c : Component). not (is_source c)) h i ≡ true
   pub dry : all_dry h ≡ true
   pub unnamed : is_named h i ≡ false
   pub sent : Sent h i
@@ -45,7 +45,7 @@ unsource : (o : Option Component) → (elim o [ None ↦ false | Some c ↦ not 
 unsource None e = cc
 unsource (Some c) e = not-true (is_source c) e
 
-pub worker_source : (h : Record) (i : ℕ) → told false (λ (c : Component). not (is_source c)) h i ≡ true → source_at h i ≡ false
+pub worker_source : (h : Record) (i : ℕ) → component_or false (λ (c : Component). not (is_source c)) h i ≡ true → source_at h i ≡ false
 worker_source h i e = unsource (component_of h i) e
 
 -- and it never drains
@@ -67,7 +67,7 @@ worker_done h i legal off done = record {
 }
   where
     w : Bool
-    w = told false (λ (c : Component). not (is_source c)) h i
+    w = component_or false (λ (c : Component). not (is_source c)) h i
 
     all : is_worker_done h i ≡ true
     all = ap (λ (b : Bool). if b then is_source_done h i else is_worker_done h i) (sym off) ∙ done
@@ -87,15 +87,15 @@ done_worker h i legal is =
     ap (λ (b : Bool). if b then is_source_done h i else is_worker_done h i) off
     ∙ and_from (is_ending h i && is_empty (buffered h i) && is_sent h i) (is_empty (held h i))
     (and_from (is_ending h i && is_empty (buffered h i)) (is_sent h i) (and_from (is_ending h i) (is_empty (buffered h i)) ending (unbuffered h i is.empty)) (is_sent_of h i is.sent))
-    (is_empty_of (held h i) is.empty.hands)
+    (is_empty_of (held h i) is.empty.holdings)
   where
     off : source_at h i ≡ false
     off = worker_source h i is.worker
 
     ending : is_ending h i ≡ true
     ending =
-        and_from (told false (λ (c : Component). not (is_source c)) h i && (drains h i || all_dry h)) (not (is_named h i))
-        (and_from (told false (λ (c : Component). not (is_source c)) h i) (drains h i || all_dry h) is.worker (or_right (drains h i) (all_dry h) is.dry))
+        and_from (component_or false (λ (c : Component). not (is_source c)) h i && (drains h i || all_dry h)) (not (is_named h i))
+        (and_from (component_or false (λ (c : Component). not (is_source c)) h i) (drains h i || all_dry h) is.worker (or_right (drains h i) (all_dry h) is.dry))
         (not_from_false (is_named h i) is.unnamed)
 
 -- ALL SOURCES
@@ -112,7 +112,7 @@ any_on p q (x ∷ xs) more none = or_from (q x) (list_any q xs) (more x ((or_par
 -- each source is dry
 pub source_dry : (h : Record) (j : ℕ) → IsLegal h → all_dry h ≡ true → source_at h j ≡ true → is_dry h j ≡ true
 source_dry h j legal dry is =
-    ap (λ (b : Bool). not b || is_dry h j) (sym is) ∙ all_among (λ k. not (source_at h k) || is_dry h k) (started h) j dry (started_told h j is_source legal is)
+    ap (λ (b : Bool). not b || is_dry h j) (sym is) ∙ all_among (λ k. not (source_at h k) || is_dry h k) (started h) j dry (started_component_or h j is_source legal is)
 
 -- and stays so
 pub all_dry_on : (h : Record) (e : Entry) → IsLegal (e ∷ h) → installs e ≡ false → all_dry h ≡ true → all_dry (e ∷ h) ≡ true
@@ -129,7 +129,7 @@ all_dry_on h e legal kept dry =
 
 -- NAMES
 -- what has no outlet gets none
-outlet_on : (h : Record) (e : Entry) (j i port : ℕ) → IsLegal (e ∷ h) → installs e ≡ false → bears j e ≡ false → count i (outlets h j port) ≡ 0 → count i (outlets (e ∷ h) j port) ≡ 0
+outlet_on : (h : Record) (e : Entry) (j i port : ℕ) → IsLegal (e ∷ h) → installs e ≡ false → creates j e ≡ false → count i (outlets h j port) ≡ 0 → count i (outlets (e ∷ h) j port) ≡ 0
 outlet_on h e j i port legal kept off none = go (is_dry h j && is_sent h j) (is_dry (e ∷ h) j && is_sent (e ∷ h) j) shut none
   where
     dry_source : is_dry h j ≡ true → source_at h j ≡ true
@@ -149,7 +149,7 @@ outlet_on h e j i port legal kept off none = go (is_dry h j && is_sent h j) (is_
     go false false more e = ap (λ (ts : List ℕ). count i ts) same ∙ e
 
 -- nor any route
-routes_on : (h : Record) (e : Entry) (j i : ℕ) (ports : List ℕ) → IsLegal (e ∷ h) → installs e ≡ false → bears j e ≡ false → count i (routes h j ports) ≡ 0 → count i (routes (e ∷ h) j ports) ≡ 0
+routes_on : (h : Record) (e : Entry) (j i : ℕ) (ports : List ℕ) → IsLegal (e ∷ h) → installs e ≡ false → creates j e ≡ false → count i (routes h j ports) ≡ 0 → count i (routes (e ∷ h) j ports) ≡ 0
 routes_on h e j i [] legal kept off none = refl
 routes_on h e j i (port ∷ ports) legal kept off none =
     let before = count-append i (outlets h j port) (routes h j ports) in
@@ -170,7 +170,7 @@ each_none f i from (suc n) p none l u =
     ]
 
 -- past the ports of a component nobody reads
-past_ports : (f : Word → List Word) (names : List Word) (p : ℕ) → length names ≤ p → slice_index_or (map f names) p [] ≡ []
+past_ports : (f : ByteString → List ByteString) (names : List ByteString) (p : ℕ) → length names ≤ p → slice_index_or (map f names) p [] ≡ []
 past_ports f [] p past = refl
 past_ports f (name ∷ rest) zero past = absurd (omega (arith, past))
 past_ports f (name ∷ rest) (suc p) past = past_ports f rest p (omega (arith, past))
@@ -182,7 +182,7 @@ port_unread : (w : Wiring) (o : Option Component) (i : ℕ) →
 port_unread w None i none p = refl
 port_unread w (Some c) i none p = elim (cases_lt p (length (port_names c))) [
   | inl within ↦ each_none (λ port. joined (map (numbers_of w.instances) (slice_index_or (map (readers w.plan w.name) (port_names c)) port []))) i 0 (length (port_names c)) p none (omega arith) (omega (arith, within))
-  | inr past ↦ ap (λ (names : List Word). count i (joined (map (numbers_of w.instances) names))) (past_ports (readers w.plan w.name) (port_names c) p past)
+  | inr past ↦ ap (λ (names : List ByteString). count i (joined (map (numbers_of w.instances) names))) (past_ports (readers w.plan w.name) (port_names c) p past)
 ]
 
 wiring_unread : (o : Option Wiring) (i : ℕ) →
@@ -247,17 +247,17 @@ retired_on (Retired k) h j is = or_right (k == j) (is_retired h j) is
 retired_on e h j is = is
 
 -- who names it not before doesn't afterwards
-unnamed_by : (h : Record) (e : Entry) (j i : ℕ) → IsLegal (e ∷ h) → installs e ≡ false → bears j e ≡ false → names h j i ≡ false → names (e ∷ h) j i ≡ false
+unnamed_by : (h : Record) (e : Entry) (j i : ℕ) → IsLegal (e ∷ h) → installs e ≡ false → creates j e ≡ false → names h j i ≡ false → names (e ∷ h) j i ≡ false
 unnamed_by h e j i legal kept off none =
     let before = uncounted (routes h j (all_ports h j)) i ((or_parts (contains (routes h j (all_ports h j)) i) (not (is_empty (waiting h j i))) none).0) in
     let empty = empty_is (waiting h j i) (not-false (is_empty (waiting h j i)) ((or_parts (contains (routes h j (all_ports h j)) i) (not (is_empty (waiting h j i))) none).1)) in
-    let ports : all_ports (e ∷ h) j ≡ all_ports h j = same_told [] (λ (c : Component). counting 0 (length (port_names c))) (e ∷ h) h j (wired_same e h j kept) in
+    let ports : all_ports (e ∷ h) j ≡ all_ports h j = same_component_or [] (λ (c : Component). counting 0 (length (port_names c))) (e ∷ h) h j (wired_same e h j kept) in
     or_from (contains (routes (e ∷ h) j (all_ports (e ∷ h) j)) i) (not (is_empty (waiting (e ∷ h) j i)))
     (uncontained (routes (e ∷ h) j (all_ports (e ∷ h) j)) i (ap (λ (ps : List ℕ). count i (routes (e ∷ h) j ps)) ports ∙ routes_on h e j i (all_ports h j) legal kept off before))
     (ap (λ (ps : List (List ℕ)). not (is_empty ps)) (unwaited h e j i legal before empty))
 
 -- so what nobody names stays unnamed
-pub unnamed_on : (h : Record) (e : Entry) (i : ℕ) → IsLegal (e ∷ h) → installs e ≡ false → ((j : ℕ) → bears j e ≡ false) → is_named h i ≡ false → is_named (e ∷ h) i ≡ false
+pub unnamed_on : (h : Record) (e : Entry) (i : ℕ) → IsLegal (e ∷ h) → installs e ≡ false → ((j : ℕ) → creates j e ≡ false) → is_named h i ≡ false → is_named (e ∷ h) i ≡ false
 unnamed_on h e i legal kept off none =
     ap (λ (ns : List ℕ). list_any (λ j. not (is_retired (e ∷ h) j) && names (e ∷ h) j i) ns) (started_same e h kept)
     ∙ any_on (λ j. not (is_retired h j) && names h j i) (λ j. not (is_retired (e ∷ h) j) && names (e ∷ h) j i) (started h) one none
@@ -295,22 +295,22 @@ unawaited h j i legal none = go (source_at h j) refl
         (none_among (λ k. not (is_retired h k) && names h k i) (started h) j none there))
 
     other : (b : Bool) → source_at h j ≡ false → transform_at h j ≡ b → waiting h j i ≡ []
-    other true off transform = by (is_retired h j) refl (started_told h j is_transform legal transform)
+    other true off transform = by (is_retired h j) refl (started_component_or h j is_transform legal transform)
     other false off none_too = (other_sent h j legal off none_too).waits i
 
     go : (b : Bool) → source_at h j ≡ b → waiting h j i ≡ []
-    go true source = by (is_retired h j) refl (started_told h j is_source legal source)
+    go true source = by (is_retired h j) refl (started_component_or h j is_source legal source)
     go false off = other (transform_at h j) off refl
 
 -- ONE MORE ENTRY
-pub worker_on : (h : Record) (e : Entry) (i : ℕ) → IsLegal (e ∷ h) → ((j : ℕ) → bears j e ≡ false) → WorkerDone h i → WorkerDone (e ∷ h) i
+pub worker_on : (h : Record) (e : Entry) (i : ℕ) → IsLegal (e ∷ h) → ((j : ℕ) → creates j e ≡ false) → WorkerDone h i → WorkerDone (e ∷ h) i
 worker_on h e i legal off done =
     let kept = uninstalled e h i (λ (c : Component). not (is_source c)) legal done.worker in
     let kept_all = conserved (e ∷ h) legal in
     record {
-      worker = same_told false (λ (c : Component). not (is_source c)) (e ∷ h) h i (wired_same e h i kept) ∙ done.worker;
+      worker = same_component_or false (λ (c : Component). not (is_source c)) (e ∷ h) h i (wired_same e h i kept) ∙ done.worker;
       dry = all_dry_on h e legal kept done.dry;
       unnamed = unnamed_on h e i legal kept off done.unnamed;
-      sent = sent_empty h e i kept_all (off i) done.empty.hands done.sent;
+      sent = sent_empty h e i kept_all (off i) done.empty.holdings done.sent;
       empty = unfilled_on h e i kept_all (unentered h e i kept_all (λ j. unawaited h j i legal.1 done.unnamed)) done.empty;
     }

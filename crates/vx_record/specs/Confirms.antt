@@ -10,7 +10,7 @@ use Rattle.vx_record.specs.Records.{Record}
 use Rattle.vx_record.specs.Copies.{all_of}
 use Rattle.vx_record.specs.Installs.{device_at}
 
--- a batch as its source bore it
+-- a batch as its source created it
 pub record Birth : Type 0 where
   pub batch : ℕ
   pub waits : Bool

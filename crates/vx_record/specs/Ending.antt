@@ -26,7 +26,7 @@ pub record MayClose (h : Record) (i : ℕ) : Type 0 where
 -- an instance is retired once its port is closed and it is done, or nothing stands at it after an Abandon
 pub record MayRetire (h : Record) (i : ℕ) : Type 0 where
   pub known : is_some (component_of h i) ≡ true
-  pub home : is_out h i ≡ false
+  pub unleased : is_out h i ≡ false
   pub unretired : is_retired h i ≡ false
   pub port_closed : device_at h i ≡ true → is_closed h i ≡ true
   pub over : (is_done h i ≡ true) ⊎ ((abandoned h ≡ true) × (is_bare h i ≡ true))

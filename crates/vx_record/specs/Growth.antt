@@ -1,6 +1,6 @@
 -- How one more entry changes what an instance did: bytes, confirms and counts.
 use Rattle.std.specs.Prelude.{ℕ, ◌+◌, ◌≡◌, Bool, true, false, not, ◌&&◌, List, [], ◌∷◌, ◌++◌, length, count_by, if◌then◌else◌, ◌==◌}
-use Rattle.vx_value.specs.Texts.{Word}
+use Rattle.vx_value.specs.Texts.{ByteString}
 use Rattle.vx_status.specs.Tables.{status_of}
 use Rattle.vx_status.specs.declared.outcome.Outcome.{Outcome}
 use Rattle.vx_status.specs.declared.event_status.EventStatus.{EventStatus}
@@ -17,7 +17,7 @@ use Rattle.vx_record.specs.Legal.{IsLegal}
 use Rattle.vx_record.specs.Tallies.{is_unread, is_newest, is_output, is_child_for, first_spent, same_status, spent_as, is_held_by, parcels_that, unread_parcels, newest_parcels, parcels_spent, lines_read, overlong_read, undecodable_read, events_born, same_end, is_batch_of, notices, takes, is_first, sent_parcels, dropped_parcels, attempts_made, bytes_sent, tally}
 
 -- the bytes of a stream that an entry took for the instance
-abbrev pub taken_in : ℕ → ℕ → Entry → Word
+abbrev pub taken_in : ℕ → ℕ → Entry → ByteString
 taken_in i stream (Read j stream' took) = if (j == i) && (stream' == stream) then bytes_of took else []
 taken_in i stream other = []
 

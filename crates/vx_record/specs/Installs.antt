@@ -1,7 +1,7 @@
 -- Which component an instance runs, by the Installs.
 use Rattle.std.specs.Prelude.{ℕ, Bool, true, false, ◌&&◌, ◌||◌, Option, Some, None, List, [], ◌∷◌, map, filter, if◌then◌else◌, ◌==◌}
 use Rattle.std.specs.List.{list_any}
-use Rattle.vx_value.specs.Texts.{Word, same_text}
+use Rattle.vx_value.specs.Texts.{ByteString, same_text}
 use Rattle.vx_plan.specs.declared.plan.Plan.{Plan}
 use Rattle.vx_plan.specs.declared.component.Component.{Component}
 use Rattle.vx_plan.specs.Components.{component_named, is_source, is_transform, is_sink}
@@ -38,7 +38,7 @@ abbrev pub is_draining : Instance → Bool
 is_draining instance = elim instance.start [ Kept ↦ false | New ↦ false | Draining ↦ true ]
 
 -- the name under which an Install gives the instance work
-abbrev pub name_at : List Instance → ℕ → Option Word
+abbrev pub name_at : List Instance → ℕ → Option ByteString
 name_at [] i = None
 name_at (instance ∷ rest) i = if (instance.number == i) && works instance then Some instance.name else name_at rest i
 
@@ -47,7 +47,7 @@ pub record Wiring : Type 0 where
   pub plan : Plan
   pub once : Bool
   pub instances : List Instance
-  pub name : Word
+  pub name : ByteString
 
 -- the wiring of an instance, if it ever was given work
 abbrev pub wiring : Record → ℕ → Option Wiring
@@ -65,7 +65,7 @@ abbrev pub plan_of : Record → ℕ → Option Plan
 plan_of = wired None (λ (w : Wiring). Some w.plan)
 
 -- the instance's name
-abbrev pub name_of : Record → ℕ → Word
+abbrev pub name_of : Record → ℕ → ByteString
 name_of = wired [] (λ (w : Wiring). w.name)
 
 -- its component
@@ -73,27 +73,27 @@ abbrev pub component_of : Record → ℕ → Option Component
 component_of = wired None (λ (w : Wiring). component_named w.plan w.name)
 
 -- what its component says, or a value where there is none
-abbrev pub told : {X : Type 0} → X → (Component → X) → Record → ℕ → X
-told none f h i = elim (component_of h i) [ None ↦ none | Some c ↦ f c ]
+abbrev pub component_or : {X : Type 0} → X → (Component → X) → Record → ℕ → X
+component_or none f h i = elim (component_of h i) [ None ↦ none | Some c ↦ f c ]
 
 -- whether the instance is a source
 abbrev pub source_at : Record → ℕ → Bool
-source_at = told false is_source
+source_at = component_or false is_source
 
 -- whether it is a transform
 abbrev pub transform_at : Record → ℕ → Bool
-transform_at = told false is_transform
+transform_at = component_or false is_transform
 
 -- whether it is a sink
 abbrev pub sink_at : Record → ℕ → Bool
-sink_at = told false is_sink
+sink_at = component_or false is_sink
 
 -- whether it has a port
 abbrev pub device_at : Record → ℕ → Bool
-device_at = told false (λ (c : Component). has_device c.settings)
+device_at = component_or false (λ (c : Component). has_device c.settings)
 
 -- the instances that an Install had under a name
-abbrev pub numbers_of : List Instance → Word → List ℕ
+abbrev pub numbers_of : List Instance → ByteString → List ℕ
 numbers_of instances name =
     map (λ (instance : Instance). instance.number) (filter (λ (instance : Instance). works instance && same_text instance.name name) instances)
 

@@ -8,7 +8,7 @@ use Rattle.vx_record.specs.Records.{Record}
 use Rattle.vx_record.specs.Copies.{count, joined}
 use Rattle.vx_record.specs.Turns.{is_out}
 use Rattle.vx_record.specs.Places.Place.{Held}
-use Rattle.vx_record.specs.Installs.{told, transform_at}
+use Rattle.vx_record.specs.Installs.{component_or, transform_at}
 use Rattle.vx_record.specs.Inputs.{Input, unanswered, to_answer}
 use Rattle.vx_record.specs.Transforms.{Judge, judges, RunsBy, judged, refused, answered_events}
 use Rattle.vx_record.specs.Owing.{last_discarded, owes_discards}
@@ -34,7 +34,7 @@ is_judging (Blackhole seconds sink) = false
 
 -- whether the instance is a transform that does
 abbrev pub judge_at : Record → ℕ → Bool
-judge_at = told false (λ (c : Component). is_transform c && is_judging c.settings)
+judge_at = component_or false (λ (c : Component). is_transform c && is_judging c.settings)
 
 -- each transform does
 abbrev pub OnlyJudges : Record → Type 0

@@ -1,7 +1,7 @@
 -- The laws over every legal record, and over every record of which some of that holds.
 use Rattle.std.specs.Prelude.{ℕ, ◌+◌, ◌^◌, ◌<◌, ◌≤◌, ◌≡◌, true, false, Option, Some, None, List, [], ◌∷◌, ◌++◌, length, drop, slice_get, map, if◌then◌else◌, ◌==◌, ◌↔◌, codes}
 use Rattle.std.specs.Str.Lossy.{utf8_lossy}
-use Rattle.vx_value.specs.Texts.{Word}
+use Rattle.vx_value.specs.Texts.{ByteString}
 use Rattle.vx_value.specs.Datum.{NamedDatum, Words}
 use Rattle.vx_value.specs.declared.event.Event.{Event}
 use Rattle.vx_json.specs.declared.decoding.Decoding.{Decoding}
@@ -93,8 +93,8 @@ NoSpentAfterNotice =
     times_noticed earlier (batch_of earlier c) ≡ 0
 
 -- a Notice says Delivered exactly where each outcome of the batch in the whole record, also behind it, is good
-abbrev pub NoticeTells : Type 0
-NoticeTells =
+abbrev pub NoticeReports : Type 0
+NoticeReports =
     (later earlier : Record) (b : ℕ) (status : BatchStatus) → IsLegal (later ++ Notice b status ∷ earlier) →
     (status ≡ Delivered) ↔ AllGood (later ++ Notice b status ∷ earlier) b
 
@@ -120,8 +120,8 @@ AccountedSo =
     (awaits_notice earlier b ≡ true) × (status ≡ batch_status earlier b)
 
 -- and says Delivered exactly where each outcome of the batch in the whole record, also behind it, is good
-abbrev pub AccountedTells : Type 0
-AccountedTells =
+abbrev pub AccountedReports : Type 0
+AccountedReports =
     (later earlier : Record) (b : ℕ) (status : BatchStatus) → IsAccounted (later ++ Notice b status ∷ earlier) →
     (status ≡ Delivered) ↔ AllGood (later ++ Notice b status ∷ earlier) b
 
@@ -194,7 +194,7 @@ PushesFirst =
 -- what failed before is attempted no sooner than its wait behind the last time
 abbrev pub AttemptsWait : Type 0
 AttemptsWait =
-    (later earlier : Record) (i : ℕ) (copies : List ℕ) (bytes : Word) (reply : Reply) →
+    (later earlier : Record) (i : ℕ) (copies : List ℕ) (bytes : ByteString) (reply : Reply) →
     IsLegal (later ++ Attempt i copies bytes reply ∷ earlier) → 0 < failures_with earlier i (first_copy copies) →
     capped (failed_at earlier i (first_copy copies) + wait_after earlier i (failures_with earlier i (first_copy copies))) ≤ lease_now earlier i
 
@@ -232,12 +232,12 @@ LineGivesNone =
     (line_events d settings line ≡ []) ↔ ((fields : List NamedDatum) → IsLineEvent d (type_name settings) (file_read settings) line.bytes fields → ⊥)
 
 -- the path of the file of a source, if it reads one
-abbrev pub file_fields : Option Word → List NamedDatum
+abbrev pub file_fields : Option ByteString → List NamedDatum
 file_fields None = []
 file_fields (Some path) = record { name = codes "file"; value = Words path } ∷ []
 
 -- the fields of a line's event under codec bytes: the path of its file, if there is one, the line as a text, and the type of its source
-abbrev pub text_fields : Settings → Word → List NamedDatum
+abbrev pub text_fields : Settings → ByteString → List NamedDatum
 text_fields settings text =
     file_fields (file_read settings)
     ++ record { name = codes "message"; value = Words (utf8_lossy text) } ∷ record { name = codes "source_type"; value = Words (type_name settings) } ∷ []

@@ -76,7 +76,7 @@ owes h i = owes_birth h i || owes_spends_in h h i || owes_discards h i || owes_a
 abbrev pub all_noticed : Record → ℕ → Bool
 all_noticed h i = list_all (λ (birth : Birth). is_noticed h birth.batch) (births h i)
 
--- a source is done where all that it bore is noticed, and no confirm is due
+-- a source is done where each batch that it created is noticed, and no confirm is due
 abbrev pub is_source_done : Record → ℕ → Bool
 is_source_done h i = is_dry h i && not (owes h i) && is_sent h i && all_noticed h i && not (is_confirm_due h i)
 

@@ -17,7 +17,7 @@ use Rattle.vx_record.specs.Copies.{count, joined, children_of, next_copy, times_
 use Rattle.vx_record.specs.Lists.{held, outputs, is_bare}
 use Rattle.vx_record.specs.Turns.{lease_now}
 use Rattle.vx_record.specs.Routing.{is_dry}
-use Rattle.vx_record.specs.Installs.{in_force, component_of, told, source_at, transform_at, device_at}
+use Rattle.vx_record.specs.Installs.{in_force, component_of, component_or, source_at, transform_at, device_at}
 use Rattle.vx_record.specs.Abandoning.{abandoned}
 use Rattle.vx_record.specs.Starting.{MayLease}
 use Rattle.vx_record.specs.Sourcing.{MayTurn}
@@ -134,4 +134,4 @@ AttemptDue =
 abbrev pub AttemptEncodes : Type 0
 AttemptEncodes =
     (h : Record) (i : ℕ) (copies bytes : List ℕ) (answer : Reply) → IsLegal h → MayAttempt h i copies bytes answer → device_at h i ≡ true →
-    told false (λ (c : Component). is_some (encoding c.settings)) h i ≡ true
+    component_or false (λ (c : Component). is_some (encoding c.settings)) h i ≡ true

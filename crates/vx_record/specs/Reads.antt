@@ -1,6 +1,6 @@
 -- The bytes that an instance took, and the lines and events that a Read completes.
 use Rattle.std.specs.Prelude.{ℕ, ◌+◌, ◌-◌, Bool, true, false, not, ◌&&◌, ◌||◌, Option, Some, None, unwrap_or, List, [], ◌∷◌, ◌++◌, length, filter, flat_map, if◌then◌else◌, ◌==◌}
-use Rattle.vx_value.specs.Texts.{Word, is_empty}
+use Rattle.vx_value.specs.Texts.{ByteString, is_empty}
 use Rattle.vx_value.specs.Datum.{NamedDatum}
 use Rattle.vx_value.specs.declared.event.Event.{Event}
 use Rattle.vx_frame.specs.Frames.{Frame, all_lines, fits, is_overlong, open_line, open_from}
@@ -16,10 +16,10 @@ use Rattle.vx_record.specs.declared.entry.Entry.{Entry}
 use Rattle.vx_record.specs.declared.entry.Entry.TheVariants.{Read, SourceLost}
 use Rattle.vx_record.specs.Records.{Record}
 use Rattle.vx_record.specs.Copies.{all_of}
-use Rattle.vx_record.specs.Installs.{told}
+use Rattle.vx_record.specs.Installs.{component_or}
 
 -- the bytes that a Read took, perhaps none
-abbrev pub bytes_of : Taken → Word
+abbrev pub bytes_of : Taken → ByteString
 bytes_of (Bytes bytes) = bytes
 bytes_of StreamEnded = []
 bytes_of AllEnded = []
@@ -37,7 +37,7 @@ is_end StreamEnded = false
 is_end AllEnded = true
 
 -- the bytes of a stream that the instance took
-abbrev pub taken : Record → ℕ → ℕ → Word
+abbrev pub taken : Record → ℕ → ℕ → ByteString
 taken [] i stream = []
 taken (Read j stream' took ∷ h) i stream = taken h i stream ++ (if (j == i) && (stream' == stream) then bytes_of took else [])
 taken (e ∷ h) i stream = taken h i stream
@@ -82,13 +82,13 @@ stream_of h i stream StreamEnded = stream
 stream_of h i stream AllEnded = unwrap_or (last_stream h i) 0
 
 -- a stream's bytes after one more Read of it
-abbrev pub still_open : Taken → Word → Word
+abbrev pub still_open : Taken → ByteString → ByteString
 still_open (Bytes bytes) before = before ++ bytes
 still_open StreamEnded before = []
 still_open AllEnded before = []
 
 -- a stream's bytes since its last end
-abbrev pub open_bytes : Record → ℕ → ℕ → Word
+abbrev pub open_bytes : Record → ℕ → ℕ → ByteString
 open_bytes [] i stream = []
 open_bytes (Read j stream' took ∷ h) i stream =
     let before = open_bytes h i stream in
@@ -96,22 +96,22 @@ open_bytes (Read j stream' took ∷ h) i stream =
 open_bytes (e ∷ h) i stream = open_bytes h i stream
 
 -- the lines that a Read of some open bytes completes, however long: it goes on with the line that they leave open, or ends it
-abbrev pub completed : Word → Taken → List Frame
+abbrev pub completed : ByteString → Taken → List Frame
 completed before (Bytes bytes) = all_lines (open_from before) (open_line before ++ bytes) false
 completed before StreamEnded = all_lines (open_from before) (open_line before) true
 completed before AllEnded = all_lines (open_from before) (open_line before) true
 
 -- those of them within a limit
-abbrev pub lines_past : ℕ → Word → Taken → List Frame
+abbrev pub lines_past : ℕ → ByteString → Taken → List Frame
 lines_past limit before took = filter (fits limit) (completed before took)
 
 -- how many of them are too long
-abbrev pub overlong_past : ℕ → Word → Taken → ℕ
+abbrev pub overlong_past : ℕ → ByteString → Taken → ℕ
 overlong_past limit before took = length (filter (is_overlong limit) (completed before took))
 
 -- the instance's limit
 abbrev pub limit_of : Record → ℕ → ℕ
-limit_of = told 0 (λ (c : Component). longest_line c.settings)
+limit_of = component_or 0 (λ (c : Component). longest_line c.settings)
 
 -- the lines that a Read completes, without the overlong ones
 abbrev pub new_lines : Record → ℕ → ℕ → Taken → List Frame
@@ -144,7 +144,7 @@ events_of_lines settings lines = elim (decoding settings) [ None ↦ [] | Some d
 
 -- the events that a Read gives
 abbrev pub events_of : Record → ℕ → ℕ → Taken → List Event
-events_of h i stream took = told [] (λ (c : Component). events_of_lines c.settings (new_lines h i stream took)) h i
+events_of h i stream took = component_or [] (λ (c : Component). events_of_lines c.settings (new_lines h i stream took)) h i
 
 -- how many of some lines are undecodable by a component's codec, if it reads lines
 abbrev pub undecodable_lines : Settings → List Frame → ℕ
@@ -152,7 +152,7 @@ undecodable_lines settings lines = elim (decoding settings) [ None ↦ 0 | Some 
 
 -- how many undecodable lines a Read completes
 abbrev pub new_undecodable : Record → ℕ → ℕ → Taken → ℕ
-new_undecodable h i stream took = told 0 (λ (c : Component). undecodable_lines c.settings (new_lines h i stream took)) h i
+new_undecodable h i stream took = component_or 0 (λ (c : Component). undecodable_lines c.settings (new_lines h i stream took)) h i
 
 -- the end of the last of some lines
 abbrev pub last_end : List Frame → ℕ

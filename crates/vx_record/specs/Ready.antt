@@ -8,7 +8,7 @@ use Rattle.vx_plan.specs.Options.{reading_interval}
 use Rattle.vx_record.specs.declared.entry.Entry.TheVariants.{Read, Idle}
 use Rattle.vx_record.specs.Records.{Record, capped}
 use Rattle.vx_record.specs.Turns.{lease_now}
-use Rattle.vx_record.specs.Installs.{told, device_at, name_of, started, is_closed}
+use Rattle.vx_record.specs.Installs.{component_or, device_at, name_of, started, is_closed}
 use Rattle.vx_record.specs.Lists.{buffered, held}
 use Rattle.vx_record.specs.Routing.{is_dry, is_sent, is_ending}
 use Rattle.vx_record.specs.Confirms.{is_confirm_due}
@@ -18,7 +18,7 @@ use Rattle.vx_record.specs.Owing.{is_done}
 
 -- how long, in milliseconds, a source rests behind a Read
 abbrev pub interval_of : Record → ℕ → ℕ
-interval_of = told 0 (λ (c : Component). reading_interval c.settings)
+interval_of = component_or 0 (λ (c : Component). reading_interval c.settings)
 
 -- the moment from which on a source may be read: it rests behind a Read for its interval, behind an Idle for 20 milliseconds, or for a
 -- second where the port failed to start
@@ -73,7 +73,7 @@ is_transform_ready h i = is_sent h i && (not (is_empty (buffered h i)) || is_flu
 -- whether a Lease at that moment finds work, apart from a tick
 abbrev pub is_ready : Record → ℕ → ℕ → Bool
 is_ready h i now =
-    told false
+    component_or false
     (λ (c : Component). elim c.class [ Source ↦ is_source_ready h i now | Transform ↦ is_transform_ready h i | Sink ↦ is_sink_ready h i now ])
     h i
 
@@ -91,7 +91,7 @@ sink_waits h i =
 -- the moment for which an instance waits, if it waits for one
 abbrev pub waits_until : Record → ℕ → Option ℕ
 waits_until h i =
-    told None (λ (c : Component). elim c.class [ Source ↦ source_waits h i | Transform ↦ None | Sink ↦ sink_waits h i ]) h i
+    component_or None (λ (c : Component). elim c.class [ Source ↦ source_waits h i | Transform ↦ None | Sink ↦ sink_waits h i ]) h i
 
 -- a transform with nothing to send is to act by itself
 pub record IsTickReady (h : Record) (i now : ℕ) : Type 0 where

@@ -8,7 +8,7 @@ use Rattle.vx_plan.specs.Targets.{targets}
 use Rattle.vx_record.specs.Records.{Record}
 use Rattle.vx_record.specs.Copies.{contains, counting, joined}
 use Rattle.vx_record.specs.Turns.{is_out, at_lease}
-use Rattle.vx_record.specs.Installs.{Wiring, wired, told, source_at, numbers_of, started, is_marked, is_retired}
+use Rattle.vx_record.specs.Installs.{Wiring, wired, component_or, source_at, numbers_of, started, is_marked, is_retired}
 use Rattle.vx_record.specs.Lists.{outputs, waiting, all_waiting}
 use Rattle.vx_record.specs.Reads.{all_ended, is_lost}
 
@@ -50,7 +50,7 @@ routes h i ports = joined (map (outlets h i) ports)
 
 -- every port of an instance
 abbrev pub all_ports : Record → ℕ → List ℕ
-all_ports = told [] (λ (c : Component). counting 0 (length (port_names c)))
+all_ports = component_or [] (λ (c : Component). counting 0 (length (port_names c)))
 
 -- whether an instance names another in an outlet or in a waiting child
 abbrev pub names : Record → ℕ → ℕ → Bool
@@ -62,4 +62,4 @@ is_named h i = list_any (λ j. not (is_retired h j) && names h j i) (started h)
 
 -- a transform or sink is ending where nothing more can reach its buffer
 abbrev pub is_ending : Record → ℕ → Bool
-is_ending h i = told false (λ (c : Component). not (is_source c)) h i && (drains h i || all_dry h) && not (is_named h i)
+is_ending h i = component_or false (λ (c : Component). not (is_source c)) h i && (drains h i || all_dry h) && not (is_named h i)

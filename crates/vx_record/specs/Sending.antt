@@ -17,7 +17,7 @@ IsOldest copies (parcel ∷ younger) = copies ≡ parcel
 
 -- the oldest output is replaced by fresh children for all its targets, of which there is one at least
 pub record IsSplit (h : Record) (i ports : ℕ) (copies : List ℕ) (event : Event) (children : List Child) : Type 0 where
-  pub home : is_out h i ≡ false
+  pub unleased : is_out h i ≡ false
   pub none_waits : all_waiting h i ≡ []
   pub oldest : IsOldest copies (outputs h i)
   pub on_ports : ports ≡ parcel_ports h copies
@@ -32,6 +32,6 @@ pub record MaySplit (h : Record) (i ports : ℕ) (copies : List ℕ) (event : Ev
 
 -- the oldest child for a target enters the target's first stage that is not full
 pub record MayPush (h : Record) (i t s : ℕ) (copies : List ℕ) : Type 0 where
-  pub home : is_out h i ≡ false
+  pub unleased : is_out h i ≡ false
   pub oldest : IsOldest copies (waiting h i t)
   pub room : first_room h t ≡ Some s

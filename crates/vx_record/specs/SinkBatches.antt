@@ -9,7 +9,7 @@ use Rattle.vx_record.specs.declared.entry.Entry.TheVariants.{Take, Attempt}
 use Rattle.vx_record.specs.Records.{Record, capped}
 use Rattle.vx_record.specs.Copies.{contains, joined}
 use Rattle.vx_record.specs.Turns.{lease_now}
-use Rattle.vx_record.specs.Installs.{told}
+use Rattle.vx_record.specs.Installs.{component_or}
 use Rattle.vx_record.specs.Lists.{held, buffered}
 use Rattle.vx_record.specs.Parcels.{first_copy}
 use Rattle.vx_record.specs.Routing.{is_ending}
@@ -48,11 +48,11 @@ failed_at (e ∷ h) i c = failed_at h i c
 
 -- how many Attempts a sink batch may have
 abbrev pub attempts_allowed : Record → ℕ → ℕ
-attempts_allowed h i = told 0 (λ (c : Component). retry_attempts c.settings) h i + 1
+attempts_allowed h i = component_or 0 (λ (c : Component). retry_attempts c.settings) h i + 1
 
 -- how long a sink waits after its k-th failed attempt
 abbrev pub wait_after : Record → ℕ → ℕ → ℕ
-wait_after h i k = told 0 (λ (c : Component). retry_wait c.settings k) h i
+wait_after h i k = component_or 0 (λ (c : Component). retry_wait c.settings k) h i
 
 -- the copy of the sink batch that came first
 abbrev pub oldest_held : Record → ℕ → ℕ
@@ -60,16 +60,16 @@ oldest_held h i = first_copy (joined (held h i))
 
 -- whether the sink holds as many parcels as a batch may have
 abbrev pub is_full_batch : Record → ℕ → Bool
-is_full_batch h i = told false (λ (c : Component). nat_le (batch_max_events c.settings) (length (held h i))) h i
+is_full_batch h i = component_or false (λ (c : Component). nat_le (batch_max_events c.settings) (length (held h i))) h i
 
 -- the moment from which on its oldest parcel has waited long enough
 abbrev pub times_out : Record → ℕ → ℕ
-times_out h i = told 0 (λ (c : Component). capped (taken_at h i (oldest_held h i) + batch_timeout c.settings)) h i
+times_out h i = component_or 0 (λ (c : Component). capped (taken_at h i (oldest_held h i) + batch_timeout c.settings)) h i
 
 -- whether it has by that moment
 abbrev pub is_timed_out : Record → ℕ → ℕ → Bool
 is_timed_out h i now =
-    told false (λ (c : Component). nat_le (capped (taken_at h i (oldest_held h i) + batch_timeout c.settings)) now) h i
+    component_or false (λ (c : Component). nat_le (capped (taken_at h i (oldest_held h i) + batch_timeout c.settings)) now) h i
 
 -- whether no parcel can follow
 abbrev pub is_last_batch : Record → ℕ → Bool

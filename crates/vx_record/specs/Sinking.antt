@@ -1,7 +1,7 @@
 -- The rows of Take and Attempt.
 use Rattle.std.specs.Prelude.{ℕ, ◌<◌, ◌≤◌, ◌≡◌, true, false, Some, List, length}
 use Rattle.std.specs.List.{list_any, list_all}
-use Rattle.vx_value.specs.Texts.{Word}
+use Rattle.vx_value.specs.Texts.{ByteString}
 use Rattle.vx_ends.specs.declared.trouble.Reply.{Reply}
 use Rattle.vx_ends.specs.declared.trouble.Reply.TheVariants as reply
 use Rattle.vx_record.specs.Records.{Record}
@@ -27,7 +27,7 @@ pub record MayTake (h : Record) (i s : ℕ) (copies : List ℕ) : Type 0 where
   pub unticked : transform_at h i ≡ true → ticks_wait h i ≡ false
 
 -- an Attempt gives the whole closed sink batch, or the first bytes of it; a sink without a port is always answered Ok
-pub record MayAttempt (h : Record) (i : ℕ) (copies : List ℕ) (bytes : Word) (answer : Reply) : Type 0 where
+pub record MayAttempt (h : Record) (i : ℕ) (copies : List ℕ) (bytes : ByteString) (answer : Reply) : Type 0 where
   pub sink : sink_at h i ≡ true
   pub out : is_out h i ≡ true
   pub once : list_any (is_attempt_of i) (since_lease h i) ≡ false
@@ -36,4 +36,4 @@ pub record MayAttempt (h : Record) (i : ℕ) (copies : List ℕ) (bytes : Word) 
   pub waited : retry_from h i ≤ lease_now h i
   pub given : is_prefix bytes (encoded h i (held h i)) ≡ true
   pub whole : answer ≡ reply.Ok → bytes ≡ encoded h i (held h i)
-  pub swallowed : device_at h i ≡ false → answer ≡ reply.Ok
+  pub blackhole_ok : device_at h i ≡ false → answer ≡ reply.Ok

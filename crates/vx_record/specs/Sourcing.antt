@@ -68,7 +68,7 @@ abbrev pub must_wait : Record → ℕ → Bool
 must_wait h i = elim (plan_of h i) [ None ↦ false | Some plan ↦ acknowledged plan (name_of h i) ]
 
 -- a Born has what the Read directly before it yields; the numbers of copies end at 2 ^ 63
-pub record MayBear (h : Record) (i batch : ℕ) (copies : List ℕ) (events : List Event) (waits : Bool) (stream end : ℕ) : Type 0 where
+pub record MayCreateBatch (h : Record) (i batch : ℕ) (copies : List ℕ) (events : List Event) (waits : Bool) (stream end : ℕ) : Type 0 where
   pub yields : yield h i ≡ Some (record { events = events; stream = stream; end = end })
   pub some : 0 < length copies
   pub one_each : length copies ≡ length events

@@ -6,11 +6,11 @@ use Rattle.vx_plan.specs.declared.when_full.WhenFull.TheVariants.{Block, DropNew
 use Rattle.vx_plan.specs.Components.{stages}
 use Rattle.vx_record.specs.Records.{Record}
 use Rattle.vx_record.specs.Lists.{contents}
-use Rattle.vx_record.specs.Installs.{told}
+use Rattle.vx_record.specs.Installs.{component_or}
 
 -- the stages of an instance's buffer
 abbrev pub stages_of : Record → ℕ → List Stage
-stages_of = told [] stages
+stages_of = component_or [] stages
 
 -- the first stage with room, from a number on
 abbrev pub room_from : ℕ → Record → ℕ → List Stage → Option ℕ

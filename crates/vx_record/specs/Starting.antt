@@ -23,15 +23,15 @@ pub record MayInstall (h : Record) (version : ℕ) (plan : Plan) (instances : Li
   pub accepted : IsPlan plan
   pub all_new : instances ≡ first_instances 0 plan.components
 
--- a Lease goes to a home instance that has work and owes nothing; no moment of a worker falls
+-- a Lease goes to an unleased instance that has work and owes nothing; no moment of a worker falls
 pub record MayLease (h : Record) (i worker now polls : ℕ) : Type 0 where
-  pub home : is_out h i ≡ false
+  pub unleased : is_out h i ≡ false
   pub unretired : is_retired h i ≡ false
   pub settled : owes h i ≡ false
   pub ready : IsReady h i now
   pub later : worker_now h worker ≤ now
   pub unpolled : polls ≡ 0
 
--- what comes home was out
-pub record MayComeHome (h : Record) (i : ℕ) : Type 0 where
+-- what comes back was out
+pub record MayReturn (h : Record) (i : ℕ) : Type 0 where
   pub out : is_out h i ≡ true

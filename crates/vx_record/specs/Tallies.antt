@@ -19,7 +19,7 @@ use Rattle.vx_record.specs.Copies.{all_of}
 use Rattle.vx_record.specs.Tally.{nothing_counted}
 use Rattle.vx_record.specs.Places.{Place, Put, all_puts}
 use Rattle.vx_record.specs.Places.Place.{Outputs, Waiting, Held}
-use Rattle.vx_record.specs.Installs.{told}
+use Rattle.vx_record.specs.Installs.{component_or}
 use Rattle.vx_record.specs.Reads.{bytes_taken, new_lines, new_overlong, new_undecodable}
 use Rattle.vx_record.specs.Confirms.{Birth, births, confirmed, last_of_each}
 use Rattle.vx_record.specs.Parcels.{first_copy}
@@ -226,4 +226,4 @@ sink_tally h i = record nothing_counted {
 -- the counts of an instance, by its class
 abbrev pub tally : Record → ℕ → Tally
 tally h i =
-    told nothing_counted (λ (c : Component). elim c.class [ Source ↦ source_tally h i | Transform ↦ transform_tally h i | Sink ↦ sink_tally h i ]) h i
+    component_or nothing_counted (λ (c : Component). elim c.class [ Source ↦ source_tally h i | Transform ↦ transform_tally h i | Sink ↦ sink_tally h i ]) h i

@@ -24,8 +24,8 @@ abbrev pub OutToWorker : Type 0
 OutToWorker = (h : Record) (i : ℕ) → is_out h i ≡ is_some (out_to h i)
 
 -- it is leased only while it is out to nobody, so no two workers have it
-abbrev pub LeasedFromHome : Type 0
-LeasedFromHome = (h : Record) (i worker now polls : ℕ) → IsLegal (Lease i worker now polls ∷ h) → out_to h i ≡ None
+abbrev pub LeasedWhenUnleased : Type 0
+LeasedWhenUnleased = (h : Record) (i worker now polls : ℕ) → IsLegal (Lease i worker now polls ∷ h) → out_to h i ≡ None
 
 -- the worker that it is out to makes each entry of its task
 abbrev pub OutMadeBy : Type 0

@@ -1,7 +1,7 @@
 -- What transforms answer to what a record gives them.
 use Rattle.std.specs.Prelude.{ℕ, ◌+◌, ◌^◌, ◌≡◌, Bool, true, false, not, ◌&&◌, Option, Some, None, List, [], ◌∷◌, ◌++◌, map, reverse, length, drop, if◌then◌else◌, ◌==◌, nat_le, nat_lt}
 use Rattle.std.specs.List.{list_all}
-use Rattle.vx_value.specs.Texts.{Word, is_empty}
+use Rattle.vx_value.specs.Texts.{ByteString, is_empty}
 use Rattle.vx_value.specs.declared.event.Event.{Event}
 use Rattle.vx_condition.specs.Steps.{Test, Step, comes, ticks, ends, events_of}
 use Rattle.vx_condition.specs.Conditions.{Says}
@@ -33,17 +33,17 @@ pub data Rule : Type 0 where
   is_free : Rule
 
 -- a test says of each event what the condition that a text is says
-abbrev pub Means : Word → Test → Type 0
+abbrev pub Means : ByteString → Test → Type 0
 Means text test = (e : Event) → Says text e.fields (test e)
 
 -- each of some tests does, of the text in its place
-abbrev pub AllMean : List Word → List Test → Type 0
+abbrev pub AllMean : List ByteString → List Test → Type 0
 AllMean [] [] = Unit {0}
 AllMean (text ∷ texts) (test ∷ tests) = Means text test × AllMean texts tests
 AllMean texts tests = ⊥
 
 -- the first of some tests, where there is a condition; without one it never holds
-abbrev pub test_of : Option Word → List Test → Test
+abbrev pub test_of : Option ByteString → List Test → Test
 test_of None tests = λ e. false
 test_of (Some text) [] = λ e. false
 test_of (Some text) (test ∷ tests) = test

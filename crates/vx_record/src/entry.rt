@@ -26,7 +26,7 @@ pub enum Entry {
         now: u64,
         polls: u64,
     },
-    /// It came home.
+    /// It came back.
     Home {
         instance: u32,
     },

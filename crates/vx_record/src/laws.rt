@@ -1,7 +1,7 @@
 //! The laws of every legal record, and of every record of which some of that holds. A law's function does nothing: what it
 //! ensures is proved.
 
-ghost use Rattle.vx_record.specs.Laws.{OnePlace, PlacesMeant, LiveStands, LegalConserved, ConservedPlace, ConservedLive, LegalAccounted, AccountedOnce, AccountedLate, AccountedSo, AccountedTells, OneNotice, OneNoticeAtLast, NoEarlyNotice, NoticeAtOnce, NoSpentAfterNotice, NoticeTells, BeginningLegal, RunningStatus, DeliveredWhereGood, OneEvent, InputsParted, AnswerHolds, FlushEmpties, DiscardsGo, TickLast, PushesFirst, AttemptsWait, NumbersBounded, RoutingKept, NoLeaseAfterAbandon, PrefixGrows, LineGives, LineGivesNone, TextGives};
+ghost use Rattle.vx_record.specs.Laws.{OnePlace, PlacesMeant, LiveStands, LegalConserved, ConservedPlace, ConservedLive, LegalAccounted, AccountedOnce, AccountedLate, AccountedSo, AccountedReports, OneNotice, OneNoticeAtLast, NoEarlyNotice, NoticeAtOnce, NoSpentAfterNotice, NoticeReports, BeginningLegal, RunningStatus, DeliveredWhereGood, OneEvent, InputsParted, AnswerHolds, FlushEmpties, DiscardsGo, TickLast, PushesFirst, AttemptsWait, NumbersBounded, RoutingKept, NoLeaseAfterAbandon, PrefixGrows, LineGives, LineGivesNone, TextGives};
 ghost use Rattle.vx_record.specs.Judges.{HeldIsGiven, HeldIsAnswered, FilteredThere, MayAnswerNow};
 ghost use Rattle.vx_record.specs.Wirings.{WiringStays, StartedStays, ComponentOfFirst, TargetsOfFirst};
 ghost use Rattle.vx_record.specs.Growth.{TakenGrows, GivenGrows, ConfirmedGrows, EndedGrows, SourceRises, TransformRises, SinkRises, SpentRises, TallyStays};
@@ -27,7 +27,7 @@ pub fn one_notice()
     ensures no_early { NoEarlyNotice }
     ensures at_once { NoticeAtOnce }
     ensures at_last_spent { NoSpentAfterNotice }
-    ensures tells { NoticeTells }
+    ensures reports { NoticeReports }
 {}
 
 /// The same of every record in which each batch gets its notice: a legal one does.
@@ -36,7 +36,7 @@ pub fn accounted()
     ensures once { AccountedOnce }
     ensures late { AccountedLate }
     ensures so { AccountedSo }
-    ensures tells { AccountedTells }
+    ensures reports { AccountedReports }
 {}
 
 /// One status for each batch, into which each spend is folded as it comes, is the status that the tables fold.

@@ -20,7 +20,7 @@ ghost use Rattle.vx_record.specs.Tallies.{events_born, takes, sent_parcels, drop
 ghost use Rattle.vx_record.specs.Places.Place.{Outputs, Waiting, Held};
 ghost use Rattle.vx_record.specs.Tasks.{IsOwn, out_to};
 ghost use Rattle.vx_record.specs.ShiftLaws.{EntryShifts, StandsAt, IsOwnPlace};
-ghost use Rattle.vx_record.specs.TaskLaws.{OthersLeave, OutToWorker, LeasedFromHome, OutMadeBy, OthersSpare, WorkersSpare, NoneSpares, TasksSpare, TasklessSpares, SparedStays, LeaseStays, ReadingStays, ContentsGrow, SpentByTaker, TasksOut};
+ghost use Rattle.vx_record.specs.TaskLaws.{OthersLeave, OutToWorker, LeasedWhenUnleased, OutMadeBy, OthersSpare, WorkersSpare, NoneSpares, TasksSpare, TasklessSpares, SparedStays, LeaseStays, ReadingStays, ContentsGrow, SpentByTaker, TasksOut};
 
 /// Entries of others leave the entries of a task. Whether an instance is out, to whom and since when, and whether its port was
 /// closed or it was retired, is said by the entries of its task alone.
@@ -111,7 +111,7 @@ pub fn shifts()
 /// bytes and its positions stay whatever others do.
 pub fn tasks_out()
     ensures worker { OutToWorker }
-    ensures home { LeasedFromHome }
+    ensures unleased { LeasedWhenUnleased }
     ensures made { OutMadeBy }
     ensures others { OthersSpare }
     ensures workers { WorkersSpare }

@@ -1,7 +1,7 @@
 -- What each call leaves a reduce to stand for, where it ended well.
 use Rattle.std.proofs.Common.{Result, Ok, Err, OnOk}
 use Rattle.std.proofs.Common.{◌≡◌, ℕ, List, [], ◌∷◌, refl, sym, ◌∙◌, subst}
-use Rattle.vx_value.specs.Texts.{Word}
+use Rattle.vx_value.specs.Texts.{ByteString}
 use Rattle.vx_ledger.specs.declared.parcel.Parcel.{Parcel}
 use Rattle.vx_transform.specs.Shelves.{Shelved}
 use Rattle.vx_condition.specs.Reducing.{Settings}
@@ -14,7 +14,7 @@ use Rattle.vx_reduce.specs.Standing.{AreMeant, IsAt, GoesOn, PutsOut, IsMeant}
 use Rattle.vx_reduce.proofs.GoingOn.{is_meant, goes_on, puts_out, goes_on_tick, puts_out_tick, goes_on_flush, puts_out_flush}
 
 -- the paths of a reduce are those of its settings
-pub same_paths : (s : Settings) (settings : ReduceSettings) (paths : List (List Word)) → paths ≡ settings.group_by → AreMeant s settings → AreMeant s (record settings { group_by = paths })
+pub same_paths : (s : Settings) (settings : ReduceSettings) (paths : List (List ByteString)) → paths ≡ settings.group_by → AreMeant s settings → AreMeant s (record settings { group_by = paths })
 same_paths s settings paths e m = record { group_by = e ∙ m.group_by; starts = m.starts; ends = m.ends; expire = m.expire; period = m.period; strategies = m.strategies }
 
 -- ---- an event, with a reduce that is as it was before it was looked at

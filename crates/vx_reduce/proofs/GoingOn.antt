@@ -3,7 +3,7 @@ use Rattle.std.proofs.Common.{◌≡◌, ℕ, ◌+◌, ◌-◌, Bool, true, fals
 use Rattle.std.specs.Prelude.{◌&&◌, ◌||◌, filter, is_some, nat_le}
 use Rattle.std.specs.List.{list_any, flat_map}
 use Rattle.vx_value.specs.Datum.{Datum, NamedDatum}
-use Rattle.vx_value.specs.Texts.{Word, is_empty}
+use Rattle.vx_value.specs.Texts.{ByteString, is_empty}
 use Rattle.vx_value.specs.declared.event.Event.{Event}
 use Rattle.vx_ledger.specs.Copies.{Copy}
 use Rattle.vx_ledger.specs.declared.parcel.Parcel.{Parcel}
@@ -35,14 +35,14 @@ use Rattle.vx_reduce.proofs.Coming.{groups_stay, came, came_out}
 
 -- ---- conditions
 -- a condition says one thing of an event
-one_said : (condition : Option Word) (e : Event) (a b : Bool) → SaysOf condition e a → SaysOf condition e b → a ≡ b
+one_said : (condition : Option ByteString) (e : Event) (a b : Bool) → SaysOf condition e a → SaysOf condition e b → a ≡ b
 one_said None e a b h k = h ∙ sym k
 one_said (Some text) e a b h k =
     let trees = one_tree h.tree k.tree text h.condition.spelled k.condition.spelled in
     h.meant ∙ (ap (λ (tree : Disjunction). disjunction_holds tree e.fields) trees ∙ sym k.meant)
 
 -- and what says something of one has a test
-has_test : (condition : Option Word) (e : Event) (holds : Bool) → SaysOf condition e holds → (test : Test) × IsTestOf condition test
+has_test : (condition : Option ByteString) (e : Event) (holds : Bool) → SaysOf condition e holds → (test : Test) × IsTestOf condition test
 has_test None e holds h = (λ f. false, λ f. refl)
 has_test (Some text) e holds h = (λ f. disjunction_holds h.tree f.fields, λ f. record { tree = h.tree; condition = h.condition; meant = refl })
 
@@ -169,12 +169,12 @@ module _ (s : Settings) (given : List Input) (old new : Reduce) (parcel : Parcel
   ends_so : s.ends_when parcel.event ≡ h.ends
   ends_so = one_said old.ends_when parcel.event (s.ends_when parcel.event) h.ends (i.meant.ends parcel.event) h.said.by_ends
 
-  abbrev groups_by : List (List Word) → List Strategy → List Group → List Group
+  abbrev groups_by : List (List ByteString) → List Strategy → List Group → List Group
   groups_by group_by strategies gs =
       groups_after (is_some (group_of (key_datum group_by parcel.event) gs)) h.starts h.ends (key_datum group_by parcel.event)
       (merged_event group_by strategies (cond h.starts [] (fields_found (group_of (key_datum group_by parcel.event) gs))) parcel.event) parcel.finalizers now gs
 
-  abbrev outputs_by : List (List Word) → List Strategy → List Group → List Output
+  abbrev outputs_by : List (List ByteString) → List Strategy → List Group → List Output
   outputs_by group_by strategies gs =
       outputs_after (is_some (group_of (key_datum group_by parcel.event) gs)) h.starts h.ends (key_datum group_by parcel.event)
       (merged_event group_by strategies (cond h.starts [] (fields_found (group_of (key_datum group_by parcel.event) gs))) parcel.event) parcel.finalizers gs

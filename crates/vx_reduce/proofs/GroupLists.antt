@@ -3,7 +3,7 @@ use Rattle.std.proofs.Common.{◌≡◌, ℕ, suc, ◌<◌, Bool, true, false, n
 use Rattle.std.specs.Prelude.{filter}
 use Rattle.std.specs.List.{flat_map}
 use Rattle.vx_value.specs.Datum.{Datum, NamedDatum}
-use Rattle.vx_value.specs.Texts.{Word}
+use Rattle.vx_value.specs.Texts.{ByteString}
 use Rattle.vx_ledger.specs.Copies.{Copy, joined}
 use Rattle.vx_transform.specs.declared.output.Output.{Output}
 use Rattle.vx_condition.specs.Steps.{Step}
@@ -112,7 +112,7 @@ last_more [] x = refl
 last_more (a ∷ []) x = refl
 last_more (a ∷ b ∷ group) x = last_more (b ∷ group) x
 
-pub merged_more : (group_by : List (List Word)) (strategies : List Strategy) (fields : List NamedDatum) (group : List Arrival) (x : Arrival) →
+pub merged_more : (group_by : List (List ByteString)) (strategies : List Strategy) (fields : List NamedDatum) (group : List Arrival) (x : Arrival) →
     merged_onto group_by strategies fields (map (λ (a : Arrival). a.event) (group ++ x ∷ [])) ≡ merged_with group_by strategies (merged_onto group_by strategies fields (map (λ (a : Arrival). a.event) group)) x.event.fields
 merged_more group_by strategies fields [] x = refl
 merged_more group_by strategies fields (a ∷ group) x = merged_more group_by strategies (merged_with group_by strategies fields a.event.fields) group x

@@ -5,7 +5,7 @@ use Rattle.std.specs.declared.cmp.Ordering.{Ordering}
 use Rattle.std.specs.declared.cmp.Ordering.TheVariants.{Less, Equal, Greater}
 use Rattle.std.specs.Ordering.{is_eq, ordering_then}
 use Rattle.vx_value.specs.Datum.{Datum, data_of}
-use Rattle.vx_value.specs.Texts.{Word}
+use Rattle.vx_value.specs.Texts.{ByteString}
 use Rattle.vx_value.specs.Orders.{datum_cmp, data_cmp}
 use Rattle.vx_value.specs.Events.{value_at}
 use Rattle.vx_value.specs.declared.event.Event.{Event}
@@ -30,7 +30,7 @@ item_same (Some d) None = refl
 item_same (Some d) (Some e) = then_last (datum_cmp d e)
 
 -- two events have one key by either
-pub key_same : (paths : List (List Word)) (e f : Event) → same_key (key_at paths e) (key_at paths f) ≡ is_eq (datum_cmp (key_datum paths e) (key_datum paths f))
+pub key_same : (paths : List (List ByteString)) (e f : Event) → same_key (key_at paths e) (key_at paths f) ≡ is_eq (datum_cmp (key_datum paths e) (key_datum paths f))
 key_same [] e f = refl
 key_same (p ∷ ps) e f =
     ap₂ (λ a b. a && b) (item_same (value_at e.fields p) (value_at f.fields p)) (key_same ps e f)
@@ -51,9 +51,9 @@ values_equal (d ∷ ds) (e ∷ es) h =
     ap₂ (λ x xs. x ∷ xs) (value_equal d e (both_left (same_value d e) (same_values ds es) h)) (values_equal ds es (both_right (same_value d e) (same_values ds es) h))
 
 -- keys that are the same are one
-pub key_equal : (paths : List (List Word)) (e : Event) (k : Key) → same_key (key_at paths e) k ≡ true → key_at paths e ≡ k
+pub key_equal : (paths : List (List ByteString)) (e : Event) (k : Key) → same_key (key_at paths e) k ≡ true → key_at paths e ≡ k
 key_equal paths e (values es) h = ap values (values_equal (map (λ path. value_at e.fields path) paths) es h)
 key_equal paths e (fields fs) h = cc
 
-pub key_own : (paths : List (List Word)) (e : Event) → same_key (key_at paths e) (key_at paths e) ≡ true
+pub key_own : (paths : List (List ByteString)) (e : Event) → same_key (key_at paths e) (key_at paths e) ≡ true
 key_own paths e = key_same paths e e ∙ own_datum (key_datum paths e)

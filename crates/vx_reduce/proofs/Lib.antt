@@ -15,4 +15,4 @@ pub mod GroupLists
 pub mod Coming
 pub mod GoingOn
 pub mod Calls
-pub mod Told
+pub mod Observed

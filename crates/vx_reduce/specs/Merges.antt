@@ -1,7 +1,7 @@
 -- The event of a group once another one is merged into it.
 use Rattle.std.specs.Prelude.{Option, Some, None, List, []}
 use Rattle.vx_value.specs.Datum.{NamedDatum}
-use Rattle.vx_value.specs.Texts.{Word}
+use Rattle.vx_value.specs.Texts.{ByteString}
 use Rattle.vx_value.specs.declared.event.Event.{Event}
 use Rattle.vx_ledger.specs.declared.parcel.Parcel.{Parcel}
 use Rattle.vx_condition.specs.Merging.{merged_with}
@@ -19,5 +19,5 @@ fields_found None = []
 fields_found (Some g) = fields_in g.parcel
 
 -- the event that an event is merged to in a group with these fields
-abbrev pub merged_event : List (List Word) → List Strategy → List NamedDatum → Event → Event
+abbrev pub merged_event : List (List ByteString) → List Strategy → List NamedDatum → Event → Event
 merged_event group_by strategies fields e = record { fields = merged_with group_by strategies fields e.fields }

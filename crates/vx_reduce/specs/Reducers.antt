@@ -1,6 +1,6 @@
 -- What reduce does, by what it holds.
 use Rattle.std.specs.Prelude.{◌≡◌, ℕ, ◌+◌, ◌-◌, Bool, true, false, not, is_some, nat_le, filter, Option, Some, None, List, [], ◌∷◌, ◌++◌, if◌then◌else◌}
-use Rattle.vx_value.specs.Texts.{Word, is_empty}
+use Rattle.vx_value.specs.Texts.{ByteString, is_empty}
 use Rattle.vx_value.specs.Datum.{Datum, NamedDatum}
 use Rattle.vx_value.specs.declared.event.Event.{Event}
 use Rattle.vx_ledger.specs.declared.parcel.Parcel.{Parcel}
@@ -24,7 +24,7 @@ abbrev pub since_after : Reduce → ℕ → ℕ
 since_after r now = if is_empty r.groups then now else r.since
 
 -- a condition says so of an event; where there is none, it doesn't hold
-abbrev pub SaysOf : Option Word → Event → Bool → Type 0
+abbrev pub SaysOf : Option ByteString → Event → Bool → Type 0
 SaysOf None e holds = holds ≡ false
 SaysOf (Some text) e holds = Says text e.fields holds
 

@@ -1,6 +1,6 @@
 -- What a reduce stands for: how it is set, and what it was given so far.
 use Rattle.std.specs.Prelude.{◌≡◌, ℕ, List, [], ◌∷◌, Option, map}
-use Rattle.vx_value.specs.Texts.{Word}
+use Rattle.vx_value.specs.Texts.{ByteString}
 use Rattle.vx_value.specs.declared.event.Event.{Event}
 use Rattle.vx_condition.specs.Steps.{Test}
 use Rattle.vx_condition.specs.Reducing.{Settings, groups, period_start, due}
@@ -12,7 +12,7 @@ use Rattle.vx_reduce.specs.Reducers.{SaysOf}
 use Rattle.vx_reduce.specs.Inputs.{Input, steps_of, group_with, outputs_at}
 
 -- a test holds of each event of which a condition does; where there is none, it never holds
-abbrev pub IsTestOf : Option Word → Test → Type 0
+abbrev pub IsTestOf : Option ByteString → Test → Type 0
 IsTestOf condition test = (e : Event) → SaysOf condition e (test e)
 
 -- what settings mean

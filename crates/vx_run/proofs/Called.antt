@@ -2,9 +2,9 @@
 use Rattle.std.proofs.Common.{◌≡◌, ◌∙◌, ◌⊎◌, inl, inr, ℕ, zero, suc, ◌+◌, Bool, List, [], ◌∷◌, ◌++◌, take, Option, Some, None, append_assoc, refl, sym, ap, subst, arith}
 use Rattle.std.specs.Prelude.{slice_get, Result, Ok, Err, OnErr}
 use Rattle.std.proofs.lemmas.List.{append-nil}
-use Rattle.vx_value.specs.Texts.{Word}
+use Rattle.vx_value.specs.Texts.{ByteString}
 use Rattle.vx_value.specs.declared.variable.Variable.{Variable}
-use Rattle.vx_ends.specs.Told.{Grows}
+use Rattle.vx_ends.specs.Observation.{Grows}
 use Rattle.vx_ends.specs.declared.call.Call.{Call}
 use Rattle.vx_ends.specs.declared.call.Call.TheVariants.{Config}
 use Rattle.vx_ends.specs.declared.world.Config.{Config as ConfigAt}
@@ -21,7 +21,7 @@ use Rattle.vx_run.specs.Calling.{HasAskedFirst, HasBegun, HasCalled, HasCalledFo
 use Rattle.vx_hub.specs.declared.parts.Numbered.{Numbered}
 use Rattle.vx_run.specs.Running.{IsInForce, NoneMissing}
 use Rattle.vx_run.specs.Showing.{IsJudgedSo}
-use Rattle.vx_run.specs.Telling.{IsKept}
+use Rattle.vx_run.specs.Reporting.{IsKept}
 
 module _ {X : Type 0} where
   pub grows_none : (old : Option (List X)) → Grows old old []
@@ -101,7 +101,7 @@ ports_cut old mid new needs cs i c at before begun =
     (begun_more old new (port_calls needs (take i cs) ++ call_of (needs c)) parts.rest (begun_behind old mid new (port_calls needs (take i cs)) (call_of (needs c)) before begun))
 
 -- what was asked for where nothing begins with a file, whatever it says
-pub read_for : (environment : List Variable) (texts : Option (List ConfigAt)) (once : Bool) (file : Word) (old new : Option (List Call)) (fault : Fault) → Grows old new (Config file ∷ []) → HasCalledFor environment texts once file old new fault
+pub read_for : (environment : List Variable) (texts : Option (List ConfigAt)) (once : Bool) (file : ByteString) (old new : Option (List Call)) (fault : Fault) → Grows old new (Config file ∷ []) → HasCalledFor environment texts once file old new fault
 read_for environment texts once file old new Usage grew = grew
 read_for environment texts once file old new (ConfigRead path) grew = grew
 read_for environment texts once file old new (ConfigRefused fault) grew = grew
@@ -112,7 +112,7 @@ read_for environment texts once file old new PrintFailed grew = grew
 read_for environment texts once file old new WantOfMemory grew = inl grew
 
 -- a run that began asked for all
-pub called_all : (words : List Word) (environment : List Variable) (texts : Option (List ConfigAt)) (file : Word) (plan : Plan) (old new : Option (List Call)) (h : Record) (fault : Option Fault) →
+pub called_all : (words : List ByteString) (environment : List Variable) (texts : Option (List ConfigAt)) (file : ByteString) (plan : Plan) (old new : Option (List Call)) (h : Record) (fault : Option Fault) →
     IsRun words file → IsPlanAt environment texts file plan → IsJudged h fault → IsInForce (has_once words) plan h fault → Grows old new (run_calls (has_once words) file plan) → HasCalled words environment texts old new h fault
 called_all words environment texts file plan old new h None asked stands judged is grew = inl (record { file = file; asked = asked; plan = plan; installed = is.installed; calls = grew })
 called_all words environment texts file plan old new h (Some WantOfMemory) asked stands judged (inl unbegun) grew =
@@ -128,7 +128,7 @@ called_all words environment texts file plan old new h (Some (SourceFailed name 
 called_all words environment texts file plan old new h (Some (ConfirmFailed name)) asked stands judged is grew = record { file = file; asked = asked; plan = plan; installed = is.installed; calls = grew }
 
 -- one that didn't begin asked for what there was to ask
-pub called_unready : (words : List Word) (environment : List Variable) (texts : Option (List ConfigAt)) (file : Word) (before now : ℕ) (old new : Option (List Call)) (h : Record) (fault : Fault) → h ≡ [] →
+pub called_unready : (words : List ByteString) (environment : List Variable) (texts : Option (List ConfigAt)) (file : ByteString) (before now : ℕ) (old new : Option (List Call)) (h : Record) (fault : Fault) → h ≡ [] →
     IsRun words file → IsUnready environment texts file before now fault → HasCalledFor environment texts (has_once words) file old new fault → HasCalled words environment texts old new h (Some fault)
 called_unready words environment texts file before now old new h Usage unbegun asked unready called = absurd unready
 called_unready words environment texts file before now old new h (ConfigRead path) unbegun asked unready called = record { file = file; asked = inl asked; calls = called }
@@ -140,7 +140,7 @@ called_unready words environment texts file before now old new h PrintFailed unb
 called_unready words environment texts file before now old new h WantOfMemory unbegun asked unready called = inr (inr (inl (record { unbegun = unbegun; file = file; asked = asked; begun = called })))
 
 -- a judgement read its file, whatever it says
-pub called_judged : (words : List Word) (environment : List Variable) (texts : Option (List ConfigAt)) (file : Word) (was is : ℕ) (same : Type 0) (shown_before shown_now : Option Word) (before now : ℕ)
+pub called_judged : (words : List ByteString) (environment : List Variable) (texts : Option (List ConfigAt)) (file : ByteString) (was is : ℕ) (same : Type 0) (shown_before shown_now : Option ByteString) (before now : ℕ)
     (old new : Option (List Call)) (h : Record) (fault : Option Fault) → h ≡ [] → IsCommand words (Validate file) → IsJudgedSo environment texts file was is same shown_before shown_now before now fault →
     Grows old new (Config file ∷ []) → HasCalled words environment texts old new h fault
 called_judged words environment texts file was is same shown_before shown_now before now old new h None unbegun asked judged grew = inr (record { unbegun = unbegun; file = file; asked = asked; calls = grew })
@@ -154,14 +154,14 @@ called_judged words environment texts file was is same shown_before shown_now be
 called_judged words environment texts file was is same shown_before shown_now before now old new h (Some (ConfirmFailed name)) unbegun asked judged grew = absurd judged.0
 
 -- where want of memory takes the place of another fault, less is said
-read_first : (words : List Word) (environment : List Variable) (texts : Option (List ConfigAt)) (old new : Option (List Call)) (h : Record) → h ≡ [] → HasReadNamed words old new → HasAskedFirst words environment texts old new h
+read_first : (words : List ByteString) (environment : List Variable) (texts : Option (List ConfigAt)) (old new : Option (List Call)) (h : Record) → h ≡ [] → HasReadNamed words old new → HasAskedFirst words environment texts old new h
 read_first words environment texts old new h unbegun read = go read.asked
   where
     go : IsRun words read.file ⊎ IsCommand words (Validate read.file) → HasAskedFirst words environment texts old new h
     go (inl run) = inr (inr (inl (record { unbegun = unbegun; file = read.file; asked = run; begun = inl read.calls })))
     go (inr judge) = inr (inl (record { unbegun = unbegun; file = read.file; asked = judge; calls = read.calls }))
 
-pub called_first : {P : Type 0} (words : List Word) (environment : List Variable) (texts : Option (List ConfigAt)) (old new : Option (List Call)) (h : Record) (ports : List (Numbered P)) (fault : Option Fault) →
+pub called_first : {P : Type 0} (words : List ByteString) (environment : List Variable) (texts : Option (List ConfigAt)) (old new : Option (List Call)) (h : Record) (ports : List (Numbered P)) (fault : Option Fault) →
     NoneMissing words environment texts h ports fault → HasCalled words environment texts old new h fault → HasAskedFirst words environment texts old new h
 called_first words environment texts old new h ports None missing (inl all) = inr (inr (inr all))
 called_first words environment texts old new h ports None missing (inr read) = inr (inl read)
@@ -176,7 +176,7 @@ called_first words environment texts old new h ports (Some PrintFailed) missing 
 called_first words environment texts old new h ports (Some WantOfMemory) missing called = called
 
 -- what is said of a fault is said of the one that is told in the end
-pub called_kept : {P : Type 0} (words : List Word) (environment : List Variable) (texts : Option (List ConfigAt)) (old new : Option (List Call)) (h : Record) (ports : List (Numbered P)) (fault kept : Option Fault) →
+pub called_kept : {P : Type 0} (words : List ByteString) (environment : List Variable) (texts : Option (List ConfigAt)) (old new : Option (List Call)) (h : Record) (ports : List (Numbered P)) (fault kept : Option Fault) →
     IsKept fault kept → NoneMissing words environment texts h ports fault → HasCalled words environment texts old new h fault → HasCalled words environment texts old new h kept
 called_kept words environment texts old new h ports fault None same missing called = subst (λ (f : Option Fault). HasCalled words environment texts old new h f) same called
 called_kept words environment texts old new h ports fault (Some WantOfMemory) some missing called = called_first words environment texts old new h ports fault missing called

@@ -3,9 +3,9 @@ use Rattle.std.proofs.Common.{◌≡◌, ◌∙◌, ◌⊎◌, inl, inr, ℕ, ze
 use Rattle.std.specs.Prelude.{◌||◌, ◌&&◌, ◌==◌, not, if◌then◌else◌, IsSomeAnd, slice_get}
 use Rattle.std.proofs.lemmas.Bool.{cases_eq, eqb-true}
 use Rattle.std.proofs.lemmas.Bool.Decides.{nat_tests}
-use Rattle.vx_value.specs.Texts.{Word}
+use Rattle.vx_value.specs.Texts.{ByteString}
 use Rattle.vx_value.specs.declared.variable.Variable.{Variable}
-use Rattle.vx_ends.specs.Told.{Told}
+use Rattle.vx_ends.specs.Observation.{Observation}
 use Rattle.vx_ends.specs.Texts.{text_at}
 use Rattle.vx_ends.specs.declared.world.Config.{Config}
 use Rattle.vx_ends.specs.declared.position.Position.{Position}
@@ -49,10 +49,10 @@ use Rattle.vx_record.proofs.Ceasing.{unabandoned}
 use Rattle.vx_record.proofs.OnePlace.{legal_before}
 use Rattle.vx_record.proofs.LegalNotices.{running_status}
 use Rattle.vx_record.proofs.Wired.{component_in_place}
-use Rattle.vx_hub.specs.Remains.{AreNumbered, AreToldButGiven}
+use Rattle.vx_hub.specs.Remains.{AreNumbered, AreObservedButGiven}
 use Rattle.vx_hub.proofs.Running.{same_run}
 use Rattle.vx_hub.specs.declared.parts.Numbered.{Numbered}
-use Rattle.vx_hub.specs.Telling.{IsNameOf}
+use Rattle.vx_hub.specs.Reporting.{IsNameOf}
 use Rattle.vx_cli.specs.Commands.{IsCommand, IsNoCommand, IsRun, has_once, has_stats}
 use Rattle.vx_cli.specs.declared.command.Command.{Command}
 use Rattle.vx_cli.specs.declared.command.Command.TheVariants.{Run, Validate}
@@ -194,15 +194,15 @@ confirmed_all (e ∷ h) i none = confirmed_all h i (omega (arith, none))
 abbrev NoneCounted : Record → ℕ → Type 0
 NoneCounted h i = (fault_count h i ≡ 0) × (refusal_count h i ≡ 0)
 
-counted_by : (told : Told) (h : Record) (i : ℕ) → told.faults ≡ 0 → told.refusals ≡ 0 → capped (fault_count h i) ≤ told.faults → capped (refusal_count h i) ≤ told.refusals → NoneCounted h i
-counted_by told h i faults refusals few none = (omega (arith, faults, few), omega (arith, refusals, none))
+counted_by : (observed : Observation) (h : Record) (i : ℕ) → observed.faults ≡ 0 → observed.refusals ≡ 0 → capped (fault_count h i) ≤ observed.faults → capped (refusal_count h i) ≤ observed.refusals → NoneCounted h i
+counted_by observed h i faults refusals few none = (omega (arith, faults, few), omega (arith, refusals, none))
 
-module _ {P : Type 0} (told_by : P → Told) (h : Record) where
-  none_counted : (k : ℕ) (ports : List (Numbered P)) → NoneFailed told_by ports → AreToldButGiven told_by h ports → AreNumbered k ports → (i : ℕ) → k ≤ i → i < k + length ports → NoneCounted h i
-  none_counted k [] none told numbers i from below = absurd (omega (arith, from, below))
-  none_counted k (n ∷ ns) none told numbers i from below = elim (cases_eq i k) [
-    | inl same ↦ subst (NoneCounted h) (numbers.0 ∙ sym same) (counted_by (told_by n.port) h n.instance none.0 none.1 told.0.faults.least told.0.refusals.least)
-    | inr other ↦ none_counted (k + 1) ns none.2 told.1 numbers.1 i (omega (arith, from, other)) (omega (arith, below))
+module _ {P : Type 0} (observe : P → Observation) (h : Record) where
+  none_counted : (k : ℕ) (ports : List (Numbered P)) → NoneFailed observe ports → AreObservedButGiven observe h ports → AreNumbered k ports → (i : ℕ) → k ≤ i → i < k + length ports → NoneCounted h i
+  none_counted k [] none observed numbers i from below = absurd (omega (arith, from, below))
+  none_counted k (n ∷ ns) none observed numbers i from below = elim (cases_eq i k) [
+    | inl same ↦ subst (NoneCounted h) (numbers.0 ∙ sym same) (counted_by (observe n.port) h n.instance none.0 none.1 observed.0.faults.least observed.0.refusals.least)
+    | inr other ↦ none_counted (k + 1) ns none.2 observed.1 numbers.1 i (omega (arith, from, other)) (omega (arith, below))
   ]
 
 -- WHO COUNTS
@@ -302,13 +302,13 @@ refusing (entry.Attempt j copies bytes answer ∷ h) on = go (is_refused answer)
 refusing (e ∷ h) on = let found = refusing h on in (found.0, let some = found.1 in omega (arith, some))
 
 -- where none failed and none was refused, each notice says Delivered
-all_delivered : {P : Type 0} (told_by : P → Told) (h : Record) (ports : List (Numbered P)) (once : Bool) (plan : Plan) → NoneFailed told_by ports → IsLegal h → WentOn h → Began once plan h → HasAll ports plan →
-    AreToldButGiven told_by h ports → AreNumbered 0 ports → (later earlier : Record) (b : ℕ) (status : BatchStatus) → later ++ entry.Notice b status ∷ earlier ≡ h → status ≡ batch.Delivered
-all_delivered told_by h ports once plan none legal going began all told numbers later earlier b status is = go status (noticed later earlier b status (subst IsLegal (sym is) legal) (subst WentOn (sym is) going))
+all_delivered : {P : Type 0} (observe : P → Observation) (h : Record) (ports : List (Numbered P)) (once : Bool) (plan : Plan) → NoneFailed observe ports → IsLegal h → WentOn h → Began once plan h → HasAll ports plan →
+    AreObservedButGiven observe h ports → AreNumbered 0 ports → (later earlier : Record) (b : ℕ) (status : BatchStatus) → later ++ entry.Notice b status ∷ earlier ≡ h → status ≡ batch.Delivered
+all_delivered observe h ports once plan none legal going began all observed numbers later earlier b status is = go status (noticed later earlier b status (subst IsLegal (sym is) legal) (subst WentOn (sym is) going))
   where
     zero_at : (i : ℕ) → NoneCounted h i
     zero_at i = elim (below_or i (length ports)) [
-      | inl below ↦ none_counted told_by h 0 ports none told numbers i (omega arith) (omega (arith, below))
+      | inl below ↦ none_counted observe h 0 ports none observed numbers i (omega arith) (omega (arith, below))
       | inr beyond ↦ began_none once plan h began legal i (omega (arith, beyond, all))
     ]
 
@@ -342,33 +342,33 @@ numbers_suffice h next wanted legal is suffice =
     let first = why.0 in let many = why.1 in omega (arith, few, first, many)
 
 -- an instance whose component is known is one of the plan in force
-within_plan : (h : Record) (plan : Plan) (i : ℕ) (name : Word) → IsLegal h → in_force h ≡ Some plan → IsNameOf h i name → i < length plan.components
+within_plan : (h : Record) (plan : Plan) (i : ℕ) (name : ByteString) → IsLegal h → in_force h ≡ Some plan → IsNameOf h i name → i < length plan.components
 within_plan h plan i name legal force named = elim (below_or i (length plan.components)) [
   | inl below ↦ below
   | inr beyond ↦ absurd (subst (λ (o : Option Component). IsSomeAnd o (λ (c : Component). name ≡ c.name)) (past plan h i legal force beyond) named)
 ]
 
-module _ {P : Type 0} (told_by : P → Told) (words : List Word) (environment : List Variable) (configs : List Config) (before now was is : ℕ) (h : Record) (ports : List (Numbered P))
-    (one : (all : List Word) (a b : Command) → IsCommand all a → IsCommand all b → a ≡ b) (apart : (all : List Word) (command : Command) → IsNoCommand all → IsCommand all command → ⊥)
-    (reads_apart : (around : List Variable) (bytes : Word) (plan : Plan) (fault : PlanFault) → NoneRefusable plan.components → IsReading around bytes (Ok plan) → IsReading around bytes (Err fault) → fault ≡ plan_fault.WantOfMemory)
-    (faultless : IsFaultless told_by words environment configs before now was is h ports) (legal : IsLegal h) (told : AreToldButGiven told_by h ports) (numbers : AreNumbered 0 ports) where
-  counts_none : (i : ℕ) (name : Word) → IsNameOf h i name → IsSomeAnd (in_force h) (HasAll ports) → fault_count h i ≡ 0
+module _ {P : Type 0} (observe : P → Observation) (words : List ByteString) (environment : List Variable) (configs : List Config) (before now was is : ℕ) (h : Record) (ports : List (Numbered P))
+    (one : (all : List ByteString) (a b : Command) → IsCommand all a → IsCommand all b → a ≡ b) (apart : (all : List ByteString) (command : Command) → IsNoCommand all → IsCommand all command → ⊥)
+    (reads_apart : (around : List Variable) (bytes : ByteString) (plan : Plan) (fault : PlanFault) → NoneRefusable plan.components → IsReading around bytes (Ok plan) → IsReading around bytes (Err fault) → fault ≡ plan_fault.WantOfMemory)
+    (faultless : IsFaultless observe words environment configs before now was is h ports) (legal : IsLegal h) (observed : AreObservedButGiven observe h ports) (numbers : AreNumbered 0 ports) where
+  counts_none : (i : ℕ) (name : ByteString) → IsNameOf h i name → IsSomeAnd (in_force h) (HasAll ports) → fault_count h i ≡ 0
   counts_none i name named all = go (in_force h) refl all
     where
       go : (o : Option Plan) → in_force h ≡ o → IsSomeAnd o (HasAll ports) → fault_count h i ≡ 0
       go None force none = absurd none
       go (Some plan) force each =
           let within = within_plan h plan i name legal force named in
-          (none_counted told_by h 0 ports faultless.none_failed told numbers i (omega arith) (omega (arith, within, each))).0
+          (none_counted observe h 0 ports faultless.none_failed observed numbers i (omega arith) (omega (arith, within, each))).0
 
   -- what the words ask for
   asked : IsCommand words (Run faultless.file (has_once words) (has_stats words))
   asked = (faultless.asked, (refl, refl))
 
-  same_file : (file : Word) → IsRun words file → file ≡ faultless.file
+  same_file : (file : ByteString) → IsRun words file → file ≡ faultless.file
   same_file file runs = let same : Run file (has_once words) (has_stats words) ≡ Run faultless.file (has_once words) (has_stats words) = one words (Run file (has_once words) (has_stats words)) (Run faultless.file (has_once words) (has_stats words)) (runs, (refl, refl)) asked in cc
 
-  unjudging : (file : Word) → IsCommand words (Validate file) → ⊥
+  unjudging : (file : ByteString) → IsCommand words (Validate file) → ⊥
   unjudging file judge = let no : Validate file ≡ Run faultless.file (has_once words) (has_stats words) = one words (Validate file) (Run faultless.file (has_once words) (has_stats words)) judge asked in cc
 
   unrefused : NoneRefusable faultless.plan.components → (fault : PlanFault) → IsRefused words environment (Some configs) fault → ⊥
@@ -378,7 +378,7 @@ module _ {P : Type 0} (told_by : P → Told) (words : List Word) (environment : 
       same_text same =
           let here : Some refused.refused.bytes ≡ Some faultless.bytes = sym refused.refused.text ∙ ap (text_at configs) same ∙ faultless.text in
           let bytes : refused.refused.bytes ≡ faultless.bytes = cc in
-          refused.refused.found (reads_apart environment faultless.bytes faultless.plan fault sure faultless.read (subst (λ (w : Word). IsReading environment w (Err fault)) bytes refused.refused.read))
+          refused.refused.found (reads_apart environment faultless.bytes faultless.plan fault sure faultless.read (subst (λ (w : ByteString). IsReading environment w (Err fault)) bytes refused.refused.read))
 
       go : IsRun words refused.file ⊎ IsCommand words (Validate refused.file) → ⊥
       go (inl run) = same_text (same_file refused.file run)
@@ -402,8 +402,8 @@ module _ {P : Type 0} (told_by : P → Told) (words : List Word) (environment : 
   answers_well (Some PrintFailed) (inr judged) blames missing = absurd (unjudging judged.0 judged.1)
 
 -- THE END
-module _ {P : Type 0} (told_by : P → Told) (words : List Word) (environment : List Variable) (configs : List Config) (before now was is : ℕ) (h : Record) (ports : List (Numbered P))
-    (one : (all : List Word) (a b : Command) → IsCommand all a → IsCommand all b → a ≡ b) (well : HasEndedWell told_by words environment configs before now was is h ports) where
+module _ {P : Type 0} (observe : P → Observation) (words : List ByteString) (environment : List Variable) (configs : List Config) (before now was is : ℕ) (h : Record) (ports : List (Numbered P))
+    (one : (all : List ByteString) (a b : Command) → IsCommand all a → IsCommand all b → a ≡ b) (well : HasEndedWell observe words environment configs before now was is h ports) where
   unjudged : IsOnlyJudged words environment (Some configs) h → ⊥
   unjudged judged =
       let run : Command = Run well.faultless.file (has_once words) (has_stats words) in
@@ -424,14 +424,14 @@ module _ {P : Type 0} (told_by : P → Told) (words : List Word) (environment : 
       go (inr judged) = absurd (unjudged judged.0)
 
   pub notices_well : (later earlier : Record) (b : ℕ) (status : BatchStatus) → later ++ entry.Notice b status ∷ earlier ≡ h → status ≡ batch.Delivered
-  notices_well = all_delivered told_by h ports (has_once words) ran.0 well.faultless.none_failed well.legal well.answer.0 ran.1 have_all well.told well.numbers
+  notices_well = all_delivered observe h ports (has_once words) ran.0 well.faultless.none_failed well.legal well.answer.0 ran.1 have_all well.observed well.numbers
 
   pub confirms_well : (later earlier : Record) (i : ℕ) (positions : List Position) (made : Bool) → later ++ entry.Confirm i positions made ∷ earlier ≡ h → made ≡ true
   confirms_well later earlier i positions made is = go made refl
     where
       none_at : NoneCounted h i
       none_at = elim (below_or i (length ports)) [
-        | inl below ↦ none_counted told_by h 0 ports well.faultless.none_failed well.told well.numbers i (omega arith) (omega (arith, below))
+        | inl below ↦ none_counted observe h 0 ports well.faultless.none_failed well.observed well.numbers i (omega arith) (omega (arith, below))
         | inr beyond ↦ began_none (has_once words) ran.0 h ran.1 well.legal i (let all = have_all in omega (arith, beyond, all))
       ]
 

@@ -1,7 +1,7 @@
 -- What is told of a run, whatever fault is told in the end.
 use Rattle.std.proofs.Common.{◌≡◌, ◌⊎◌, inl, inr, ℕ, Bool, List, Option, Some, None, sym, subst, ◌∙◌}
 use Rattle.std.specs.Prelude.{IsSomeAnd}
-use Rattle.vx_value.specs.Texts.{Word}
+use Rattle.vx_value.specs.Texts.{ByteString}
 use Rattle.vx_value.specs.declared.variable.Variable.{Variable}
 use Rattle.vx_ends.specs.declared.world.Config.{Config}
 use Rattle.vx_plan.specs.declared.plan.Plan.{Plan}
@@ -24,7 +24,7 @@ but_short Before After fault counted (inl same) then before = λ other. then (be
 but_short Before After fault counted (inr short) then before = λ other. absurd (other short)
 
 -- a run that began has the plan in force that the words ask for
-pub installed_for : (words : List Word) (environment : List Variable) (texts : Option (List Config)) (plan : Plan) (h : Record) (fault : Option Fault) →
+pub installed_for : (words : List ByteString) (environment : List Variable) (texts : Option (List Config)) (plan : Plan) (h : Record) (fault : Option Fault) →
     IsReady words environment texts plan → IsJudged h fault → IsInForce (has_once words) plan h fault → HasInstalled words environment texts h fault
 installed_for words environment texts plan h None ready judged is = inl (record { plan = plan; ready = ready; began = is })
 installed_for words environment texts plan h (Some WantOfMemory) ready judged (inl unbegun) = inl unbegun
@@ -38,7 +38,7 @@ installed_for words environment texts plan h (Some (SourceFailed name at)) ready
 installed_for words environment texts plan h (Some (ConfirmFailed name)) ready judged is = record { plan = plan; ready = ready; began = is }
 
 -- what is judged of a run that began is its answer
-pub answered : (words : List Word) (environment : List Variable) (texts : Option (List Config)) (before now : ℕ) (h : Record) (fault : Option Fault) →
+pub answered : (words : List ByteString) (environment : List Variable) (texts : Option (List Config)) (before now : ℕ) (h : Record) (fault : Option Fault) →
     IsJudged h fault → IsAnswer words environment texts before now h fault
 answered words environment texts before now h None judged = judged
 answered words environment texts before now h (Some WantOfMemory) judged = tt
@@ -66,7 +66,7 @@ each_of plan h ports (Some (ConfirmFailed name)) all = all
 there : {P : Type 0} (plan : Plan) (h : Record) (ports : List (Numbered P)) → in_force h ≡ Some plan → HasAll ports plan → IsSomeAnd (in_force h) (HasAll ports)
 there plan h ports is all = subst (λ (found : Option Plan). IsSomeAnd found (HasAll ports)) (sym is) all
 
-pub none_missing_for : {P : Type 0} (words : List Word) (environment : List Variable) (texts : Option (List Config)) (once : Bool) (plan : Plan) (h : Record) (ports : List (Numbered P)) (fault : Option Fault) →
+pub none_missing_for : {P : Type 0} (words : List ByteString) (environment : List Variable) (texts : Option (List Config)) (once : Bool) (plan : Plan) (h : Record) (ports : List (Numbered P)) (fault : Option Fault) →
     IsReady words environment texts plan → IsJudged h fault → IsInForce once plan h fault → HasEach plan h ports fault → NoneMissing words environment texts h ports fault
 none_missing_for words environment texts once plan h ports None ready judged is each = inl (there plan h ports is.installed each)
 none_missing_for words environment texts once plan h ports (Some WantOfMemory) ready judged is (inl unbegun) = inl unbegun

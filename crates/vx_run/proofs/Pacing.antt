@@ -21,7 +21,7 @@ use Rattle.vx_tasks.specs.declared.landing.Done.TheVariants as done
 use Rattle.vx_tasks.specs.declared.landing.Landing.{Landing}
 use Rattle.vx_tasks.specs.Out.{confirm_entries, turn_entry}
 use Rattle.vx_moves.specs.Answering.{answer_by}
-use Rattle.vx_landing.specs.Landings.{ComesBehind, IsNotedSo, done_entries, told_on}
+use Rattle.vx_landing.specs.Landings.{ComesBehind, IsNotedSo, done_entries, observed_on}
 use Rattle.vx_hub.specs.Collecting.{IsTakeOf}
 use Rattle.vx_hub.specs.Ending.{GivesUp}
 use Rattle.vx_hub.specs.Failures.{abandon_cause}
@@ -93,20 +93,20 @@ done_on unanswered i (done.Attempted all sent answer) h legal = one_on IsTimeles
 done_on true i (done.Judged ports) h legal = adds_none IsTimeless h h refl
 done_on false i (done.Judged ports) h legal = one_on IsTimeless h (answer_by h i ports) legal tt
 done_on unanswered i done.Closed h legal = one_on IsTimeless h (entry.Closed i) legal tt
-done_on unanswered i done.Short h legal = adds_none IsTimeless h h refl
+done_on unanswered i done.OutOfMemory h legal = adds_none IsTimeless h h refl
 done_on unanswered i done.Starved h legal = adds_none IsTimeless h h refl
 
 pub landed_on : {P : Type 0} (unanswered : Bool) (landing : Landing P) (old new : Record) → IsLegal new → IsNotedSo unanswered landing old new → OnlyAdds IsTimeless old new
 landed_on unanswered landing old new legal noted =
     let i = landing.instance in
     let before = confirm_entries i landing.confirmed ++ old in
-    let told = told_on unanswered landing old in
-    let told_legal : IsLegal told = legal_before noted.added told (subst IsLegal noted.is legal) in
-    adds_both IsTimeless old told new
-    (adds_both IsTimeless old before told
-    (confirm_on i landing.confirmed old (legal_before (done_entries unanswered before i landing.done) before told_legal))
-    (done_on unanswered i landing.done before told_legal))
-    (adds_wider (ComesBehind i) IsTimeless (behind_timeless i) told new noted)
+    let observed = observed_on unanswered landing old in
+    let observed_legal : IsLegal observed = legal_before noted.added observed (subst IsLegal noted.is legal) in
+    adds_both IsTimeless old observed new
+    (adds_both IsTimeless old before observed
+    (confirm_on i landing.confirmed old (legal_before (done_entries unanswered before i landing.done) before observed_legal))
+    (done_on unanswered i landing.done before observed_legal))
+    (adds_wider (ComesBehind i) IsTimeless (behind_timeless i) observed new noted)
 
 -- an instance ended, or nothing was done
 pub retired_on : {Same : Type 0} (ended : Option ℕ) (old new : Record) → IsLegal new → IfSome ended (λ i. new ≡ entry.Retired i ∷ old) → IfNone ended Same → (Same → new ≡ old) → OnlyAdds IsTimeless old new

@@ -4,7 +4,7 @@ use Rattle.std.specs.Prelude.{slice_get, IfSome}
 use Rattle.std.specs.List.{list_all}
 use Rattle.std.proofs.lemmas.Bool.{and_parts}
 use Rattle.std.proofs.lemmas.List.{reverse-append}
-use Rattle.vx_value.specs.Texts.{Word}
+use Rattle.vx_value.specs.Texts.{ByteString}
 use Rattle.vx_plan.specs.declared.component.Component.{Component}
 use Rattle.vx_pick.specs.declared.picker.Picker.{Picker}
 use Rattle.vx_reading.specs.Conditions.{conditions_by}
@@ -22,7 +22,7 @@ parted : {X : Type 0} (x y : X) (xs ys : List X) → x ∷ xs ≡ y ∷ ys → (
 parted x y xs ys same = (cc, cc)
 
 -- the last of the lists that are left is that of the next component
-pub next_list : (cs : List Component) (i : ℕ) (c : Component) (left rest : List (List Word)) (list : List Word) → slice_get cs i ≡ Some c →
+pub next_list : (cs : List Component) (i : ℕ) (c : Component) (left rest : List (List ByteString)) (list : List ByteString) → slice_get cs i ≡ Some c →
     reverse left ≡ map conditions_by (drop i cs) → left ≡ rest ++ list ∷ [] → (list ≡ conditions_by c) × (reverse rest ≡ map conditions_by (drop (i + 1) cs))
 next_list cs i c left rest list at so parts =
     let next : suc i ≡ i + 1 = omega arith in
@@ -30,7 +30,7 @@ next_list cs i c left rest list at so parts =
     (both.0, both.1 ∙ ap (λ (n : ℕ). map conditions_by (drop n cs)) next)
 
 -- so there is one
-pub one_left : (cs : List Component) (i : ℕ) (c : Component) (left : List (List Word)) → slice_get cs i ≡ Some c → reverse left ≡ map conditions_by (drop i cs) → left ≡ [] → ⊥
+pub one_left : (cs : List Component) (i : ℕ) (c : Component) (left : List (List ByteString)) → slice_get cs i ≡ Some c → reverse left ≡ map conditions_by (drop i cs) → left ≡ [] → ⊥
 one_left cs i c left at so none = let empty : [] ≡ conditions_by c ∷ map conditions_by (drop (suc i) cs) = ap reverse (sym none) ∙ (so ∙ lists_at cs i c at) in cc
 
 -- where two lists are told of in their order, and each of the first components has what it is to have, so has one more
@@ -51,9 +51,9 @@ module _ {X : Type 0} (IsFor : Component → X → Type 0) (AreFor : List Compon
 
   all_more : (cs : List Component) (i : ℕ) (c : Component) (xs more : List X) (x : X) → more ≡ xs ++ x ∷ [] → slice_get cs i ≡ Some c →
       AreFor (take i cs) xs → IsFor c x → AreFor (take (i + 1) cs) more
-  all_more cs i c xs more x told at all is =
+  all_more cs i c xs more x observed at all is =
       let next : suc i ≡ i + 1 = omega arith in
-      subst (λ (n : ℕ). AreFor (take n cs) more) next (subst (λ (os : List X). AreFor (take (suc i) cs) os) (sym told) (all_to cs i c xs x at all is))
+      subst (λ (n : ℕ). AreFor (take n cs) more) next (subst (λ (os : List X). AreFor (take (suc i) cs) os) (sym observed) (all_to cs i c xs x at all is))
 
 -- so it is of what they pick by
 pub picker_more : (cs : List Component) (i : ℕ) (c : Component) (ps more : List (Option Picker)) (p : Option Picker) → more ≡ ps ++ p ∷ [] → slice_get cs i ≡ Some c →
@@ -71,7 +71,7 @@ bare_behind [] k all bare = (bare, tt)
 bare_behind (first ∷ ks) k all bare = (all.0, bare_behind ks k all.1 bare)
 
 pub bare_more : (ks more : List (Option Kept)) (k : Option Kept) → more ≡ ks ++ k ∷ [] → AreBare ks → IfSome k (λ (kept : Kept). copies_kept kept ≡ []) → AreBare more
-bare_more ks more k told all bare = subst AreBare (sym told) (bare_behind ks k all bare)
+bare_more ks more k observed all bare = subst AreBare (sym observed) (bare_behind ks k all bare)
 
 -- what begins with none has none
 pub bare_none : (ks : List (Option Kept)) → ks ≡ [] → AreBare ks

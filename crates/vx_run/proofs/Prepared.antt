@@ -3,23 +3,23 @@ use Rattle.std.proofs.Common.{◌≡◌, ◌∙◌, ℕ, Bool, zero, suc, ◌+�
 use Rattle.std.specs.Prelude.{slice_get}
 use Rattle.vx_plan.specs.declared.component.Component.{Component}
 use Rattle.vx_ends.specs.declared.port_spec.PortSpec.{PortSpec}
-use Rattle.vx_ends.specs.Told.{Told, IsFresh}
+use Rattle.vx_ends.specs.Observation.{Observation, IsFresh}
 use Rattle.vx_hub.specs.declared.parts.Named.{Named}
 use Rattle.vx_hub.specs.Making.{IsUntouched, AreUntouched}
-use Rattle.vx_tasks.specs.Telling.{HasCounted}
+use Rattle.vx_tasks.specs.Observing.{HasCounted}
 
-untouched_more : {P : Type 0} (told_by : P → Told) (needs : Component → Option PortSpec) (components : List Component) (ports : List (Named P)) (component : Component) (named : Named P) → slice_get components (length ports) ≡ Some component →
-    AreUntouched told_by needs components ports → IsUntouched (needs component) (told_by named.port) → AreUntouched told_by needs components (ports ++ named ∷ [])
-untouched_more told_by needs [] [] component named is all one = cc
-untouched_more told_by needs (c ∷ cs) [] component named is all one = let same : c ≡ component = cc in (subst (λ (d : Component). IsUntouched (needs d) (told_by named.port)) (sym same) one, tt)
-untouched_more told_by needs [] (p ∷ ports) component named is all one = absurd all
-untouched_more told_by needs (c ∷ cs) (p ∷ ports) component named is all one = (all.0, untouched_more told_by needs cs ports component named is all.1 one)
+untouched_more : {P : Type 0} (observe : P → Observation) (needs : Component → Option PortSpec) (components : List Component) (ports : List (Named P)) (component : Component) (named : Named P) → slice_get components (length ports) ≡ Some component →
+    AreUntouched observe needs components ports → IsUntouched (needs component) (observe named.port) → AreUntouched observe needs components (ports ++ named ∷ [])
+untouched_more observe needs [] [] component named is all one = cc
+untouched_more observe needs (c ∷ cs) [] component named is all one = let same : c ≡ component = cc in (subst (λ (d : Component). IsUntouched (needs d) (observe named.port)) (sym same) one, tt)
+untouched_more observe needs [] (p ∷ ports) component named is all one = absurd all
+untouched_more observe needs (c ∷ cs) (p ∷ ports) component named is all one = (all.0, untouched_more observe needs cs ports component named is all.1 one)
 
 -- a list of which that is so may be told otherwise
-pub untouched_added : {P : Type 0} (told_by : P → Told) (needs : Component → Option PortSpec) (components : List Component) (ports more : List (Named P)) (component : Component) (named : Named P) → more ≡ ports ++ named ∷ [] →
-    slice_get components (length ports) ≡ Some component → AreUntouched told_by needs components ports → IsUntouched (needs component) (told_by named.port) → AreUntouched told_by needs components more
-untouched_added {P} told_by needs components ports more component named is at all one =
-    subst (λ (ps : List (Named P)). AreUntouched told_by needs components ps) (sym is) (untouched_more told_by needs components ports component named at all one)
+pub untouched_added : {P : Type 0} (observe : P → Observation) (needs : Component → Option PortSpec) (components : List Component) (ports more : List (Named P)) (component : Component) (named : Named P) → more ≡ ports ++ named ∷ [] →
+    slice_get components (length ports) ≡ Some component → AreUntouched observe needs components ports → IsUntouched (needs component) (observe named.port) → AreUntouched observe needs components more
+untouched_added {P} observe needs components ports more component named is at all one =
+    subst (λ (ps : List (Named P)). AreUntouched observe needs components ps) (sym is) (untouched_more observe needs components ports component named at all one)
 
 -- what stands at a place
 slice_got : {X : Type 0} (xs : List X) (i : ℕ) (x : X) → i < length xs → x ≡ get_or xs i x → slice_get xs i ≡ Some x
@@ -42,23 +42,23 @@ none_counted : (exact : Bool) (n : ℕ) → n ≡ 0 → HasCounted exact 0 n
 none_counted exact n is = record { least = omega (arith, is); exactly = λ on. is }
 
 -- a port that is fresh for that is untouched
-fresh_untouched : (spec : PortSpec) (told : Told) → IsFresh spec told → IsUntouched (Some spec) told
-fresh_untouched spec told fresh = record {
+fresh_untouched : (spec : PortSpec) (observed : Observation) → IsFresh spec observed → IsUntouched (Some spec) observed
+fresh_untouched spec observed fresh = record {
   made_for = fresh.made_for;
   taken = fresh.taken;
   given = fresh.given;
   confirmed = fresh.confirmed;
   ended = fresh.ended;
   closed = fresh.closed;
-  starts = none_counted told.exact told.starts fresh.starts;
-  faults = none_counted told.exact told.faults fresh.faults;
-  refusals = none_counted told.exact told.refusals fresh.refusals;
-  idles = none_counted told.exact told.idles fresh.idles;
-  finishes = none_counted told.exact told.finishes fresh.finishes;
-  confirms = none_counted told.exact told.confirms fresh.confirms;
+  starts = none_counted observed.exact observed.starts fresh.starts;
+  faults = none_counted observed.exact observed.faults fresh.faults;
+  refusals = none_counted observed.exact observed.refusals fresh.refusals;
+  idles = none_counted observed.exact observed.idles fresh.idles;
+  finishes = none_counted observed.exact observed.finishes fresh.finishes;
+  confirms = none_counted observed.exact observed.confirms fresh.confirms;
 }
 
 -- so is one that is fresh for what is needed
-pub port_untouched : (needs found : Option PortSpec) (spec : PortSpec) (told : Told) → found ≡ needs → found ≡ Some spec → IsFresh spec told → IsUntouched needs told
-port_untouched needs found spec told is there fresh =
-    subst (λ (needed : Option PortSpec). IsUntouched needed told) (sym there ∙ is) (fresh_untouched spec told fresh)
+pub port_untouched : (needs found : Option PortSpec) (spec : PortSpec) (observed : Observation) → found ≡ needs → found ≡ Some spec → IsFresh spec observed → IsUntouched needs observed
+port_untouched needs found spec observed is there fresh =
+    subst (λ (needed : Option PortSpec). IsUntouched needed observed) (sym there ∙ is) (fresh_untouched spec observed fresh)

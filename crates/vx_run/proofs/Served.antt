@@ -14,11 +14,11 @@ use Rattle.vx_plan.specs.declared.settings.Settings.TheVariants as settings
 use Rattle.vx_plan.specs.Components.{is_source, is_transform, is_sink, port_names}
 use Rattle.vx_plan.specs.Options.{has_device, transform_ports}
 use Rattle.vx_record.specs.Judges.{is_judging}
-use Rattle.vx_sourcecore.specs.Lines.{is_generating, is_swallowing}
+use Rattle.vx_sourcecore.specs.Lines.{is_generating, is_blackhole}
 use Rattle.vx_tasks.specs.Joining.{is_joining}
-use Rattle.vx_ready.specs.Asking.{has_few_ports, is_judge, is_merger, is_generator, is_hole}
+use Rattle.vx_ready.specs.Asking.{has_few_ports, is_judge, is_merger, is_generator, is_blackhole_sink}
 use Rattle.vx_hub.specs.Making.{is_served, all_served}
-use Rattle.vx_reading.specs.Made.{is_ported, is_picking, is_merging, is_generating as read_generating, is_swallowing as read_swallowing, is_made}
+use Rattle.vx_reading.specs.Made.{is_ported, is_picking, is_merging, is_generating as read_generating, is_blackhole as read_blackhole, is_made}
 
 le_test : (m n : ℕ) → m ≤ n → nat_le m n ≡ true
 le_test m n l = grind (arith, nat_tests)
@@ -82,18 +82,18 @@ generating : (s : Settings) → read_generating s ≡ true → is_generating s �
 generating (settings.DemoLogs demo interval) is = is
 generating other is = cc
 
-swallowing : (s : Settings) → read_swallowing s ≡ true → is_swallowing s ≡ true
-swallowing (settings.Blackhole seconds sink) is = refl
-swallowing other is = cc
+blackhole : (s : Settings) → read_blackhole s ≡ true → is_blackhole s ≡ true
+blackhole (settings.Blackhole seconds sink) is = refl
+blackhole other is = cc
 
 made_serves : (c : Component) → is_made c ≡ true → is_served c ≡ true
 made_serves c made =
-    one_of (is_ported c) (is_transform c && is_picking c.settings) (is_transform c && is_merging c.settings) (is_source c && read_generating c.settings) (is_sink c && read_swallowing c.settings)
-    (is_judge c) (is_generator c) (is_hole c) (is_merger c)
+    one_of (is_ported c) (is_transform c && is_picking c.settings) (is_transform c && is_merging c.settings) (is_source c && read_generating c.settings) (is_sink c && read_blackhole c.settings)
+    (is_judge c) (is_generator c) (is_blackhole_sink c) (is_merger c)
     (λ is. let both = and_parts (is_transform c) (is_picking c.settings) is in judge_of c c.class refl both.0 both.1)
     (λ is. let both = and_parts (is_transform c) (is_merging c.settings) is in merger_of c c.class refl both.0 both.1)
     (λ is. let both = and_parts (is_source c) (read_generating c.settings) is in ap (λ (b : Bool). b && is_generating c.settings) both.0 ∙ generating c.settings both.1)
-    (λ is. let both = and_parts (is_sink c) (read_swallowing c.settings) is in ap (λ (b : Bool). b && is_swallowing c.settings) both.0 ∙ swallowing c.settings both.1)
+    (λ is. let both = and_parts (is_sink c) (read_blackhole c.settings) is in ap (λ (b : Bool). b && is_blackhole c.settings) both.0 ∙ blackhole c.settings both.1)
     made
 
 -- so all are served

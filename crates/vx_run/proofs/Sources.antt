@@ -19,7 +19,7 @@ use Rattle.vx_record.specs.Routing.{is_dry, is_sent, is_out_from_before}
 use Rattle.vx_record.specs.declared.entry.Entry.TheVariants.{Install, SourceLost, Confirm, Retired}
 use Rattle.vx_record.proofs.Ceasing.{has_cause, more_on, unmarked}
 use Rattle.vx_record.proofs.Counts.{counting_after}
-use Rattle.vx_record.proofs.Senders.{started_told}
+use Rattle.vx_record.proofs.Senders.{started_component_or}
 use Rattle.vx_plan.specs.declared.plan.Plan.{Plan}
 use Rattle.vx_ready.proofs.Counting.{started_are}
 
@@ -28,7 +28,7 @@ pub source_within : (h : Record) (plan : Plan) (i : ℕ) → IsLegal h → in_fo
 source_within h plan i legal force source = go (nat_lt i (length (started h))) refl
   where
     some : 0 < count i (counting 0 (length (started h)))
-    some = subst (λ (ns : List ℕ). 0 < count i ns) (started_are h plan (length (started h)) legal force refl) (started_told h i is_source legal source)
+    some = subst (λ (ns : List ℕ). 0 < count i ns) (started_are h plan (length (started h)) legal force refl) (started_component_or h i is_source legal source)
 
     go : (b : Bool) → nat_lt i (length (started h)) ≡ b → i < length (started h)
     go true e = grind (arith, nat_tests)

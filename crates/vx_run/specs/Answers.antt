@@ -1,8 +1,8 @@
 -- What each answer of a run says.
 use Rattle.std.specs.Prelude.{◌≡◌, ◌≢◌, ℕ, ◌<◌, ◌⊎◌, true, false, List, Option, Some, None, Ok, Err}
-use Rattle.vx_value.specs.Texts.{Word}
+use Rattle.vx_value.specs.Texts.{ByteString}
 use Rattle.vx_value.specs.declared.variable.Variable.{Variable}
-use Rattle.vx_ends.specs.Told.{Rose}
+use Rattle.vx_ends.specs.Observation.{Rose}
 use Rattle.vx_ends.specs.Texts.{IsTextAt}
 use Rattle.vx_ends.specs.declared.world.Config.{Config}
 use Rattle.vx_plan.specs.declared.plan.Plan.{Plan}
@@ -13,7 +13,7 @@ use Rattle.vx_record.specs.Records.{Record}
 use Rattle.vx_record.specs.Confirms.{is_unconfirmed}
 use Rattle.vx_record.specs.declared.abandon_cause.AbandonCause.TheVariants as cause
 use Rattle.vx_record.specs.Ceasing.{lost_at, cause_of}
-use Rattle.vx_hub.specs.Telling.{IsNameOf}
+use Rattle.vx_hub.specs.Reporting.{IsNameOf}
 use Rattle.vx_cli.specs.declared.fault.Fault.{Fault}
 use Rattle.vx_cli.specs.declared.fault.Fault.TheVariants.{Usage, ConfigRead, ConfigRefused, Numbers, SourceFailed, ConfirmFailed, PrintFailed, WantOfMemory}
 use Rattle.vx_cli.specs.Commands.{IsCommand, IsNoCommand, IsRun, has_stats}
@@ -24,69 +24,69 @@ abbrev pub ButForMemory : Type 0 → Option Fault → Type 0
 ButForMemory fact fault = fault ≢ Some WantOfMemory → fact
 
 -- the words ask for a run of a file, or for a judgement of it
-abbrev pub NamesFile : List Word → Word → Type 0
+abbrev pub NamesFile : List ByteString → ByteString → Type 0
 NamesFile words file = IsRun words file ⊎ IsCommand words (Validate file)
 
 -- the words ask for a run, and not for what the instances count
-abbrev pub AsksRun : List Word → Type 0
-AsksRun words = (file : Word) × (IsRun words file × (has_stats words ≡ false))
+abbrev pub AsksRun : List ByteString → Type 0
+AsksRun words = (file : ByteString) × (IsRun words file × (has_stats words ≡ false))
 
 -- or for both
-abbrev pub AsksStats : List Word → Type 0
-AsksStats words = (file : Word) × (IsRun words file × (has_stats words ≡ true))
+abbrev pub AsksStats : List ByteString → Type 0
+AsksStats words = (file : ByteString) × (IsRun words file × (has_stats words ≡ true))
 
 -- a file, whose bytes these are where the world tells its texts, stands for this plan
-pub record IsPlanAt (environment : List Variable) (texts : Option (List Config)) (file : Word) (plan : Plan) : Type 0 where
-  pub bytes : Word
+pub record IsPlanAt (environment : List Variable) (texts : Option (List Config)) (file : ByteString) (plan : Plan) : Type 0 where
+  pub bytes : ByteString
   pub text : IsTextAt texts file bytes
   pub read : IsReading environment bytes (Ok plan)
 
 -- a file stands for no plan, for this reason, which isn't want of memory
-pub record IsFaultAt (environment : List Variable) (texts : Option (List Config)) (file : Word) (fault : PlanFault) : Type 0 where
-  pub bytes : Word
+pub record IsFaultAt (environment : List Variable) (texts : Option (List Config)) (file : ByteString) (fault : PlanFault) : Type 0 where
+  pub bytes : ByteString
   pub text : IsTextAt texts file bytes
   pub read : IsReading environment bytes (Err fault)
   pub found : fault ≢ plan_fault.WantOfMemory
 
 -- the words ask for a run of a file that stands for this plan
-pub record IsReady (words : List Word) (environment : List Variable) (texts : Option (List Config)) (plan : Plan) : Type 0 where
-  pub file : Word
+pub record IsReady (words : List ByteString) (environment : List Variable) (texts : Option (List Config)) (plan : Plan) : Type 0 where
+  pub file : ByteString
   pub asked : IsRun words file
   pub stands : IsPlanAt environment texts file plan
 
 -- the words ask for a judgement of a file that stands for this plan
-pub record IsValid (words : List Word) (environment : List Variable) (texts : Option (List Config)) (plan : Plan) : Type 0 where
-  pub file : Word
+pub record IsValid (words : List ByteString) (environment : List Variable) (texts : Option (List Config)) (plan : Plan) : Type 0 where
+  pub file : ByteString
   pub asked : IsCommand words (Validate file)
   pub stands : IsPlanAt environment texts file plan
 
 -- the words name a file that stands for no plan, for this reason
-pub record IsRefused (words : List Word) (environment : List Variable) (texts : Option (List Config)) (fault : PlanFault) : Type 0 where
-  pub file : Word
+pub record IsRefused (words : List ByteString) (environment : List Variable) (texts : Option (List Config)) (fault : PlanFault) : Type 0 where
+  pub file : ByteString
   pub asked : NamesFile words file
   pub refused : IsFaultAt environment texts file fault
 
 -- what a failed read of a configuration says
-abbrev pub IsUnread : Word → ℕ → ℕ → Fault → Type 0
+abbrev pub IsUnread : ByteString → ℕ → ℕ → Fault → Type 0
 IsUnread file before now (ConfigRead path) = (path ≡ file) × Rose before now
 IsUnread file before now WantOfMemory = Unit {0}
 IsUnread file before now other = ⊥
 
 -- what a refused configuration says
-abbrev pub IsMisread : List Variable → Word → Fault → Type 0
+abbrev pub IsMisread : List Variable → ByteString → Fault → Type 0
 IsMisread environment bytes (ConfigRefused fault) = IsReading environment bytes (Err fault) × (fault ≢ plan_fault.WantOfMemory)
 IsMisread environment bytes WantOfMemory = Unit {0}
 IsMisread environment bytes other = ⊥
 
 -- what it says where a file gives no plan
-abbrev pub IsUnready : List Variable → Option (List Config) → Word → ℕ → ℕ → Fault → Type 0
+abbrev pub IsUnready : List Variable → Option (List Config) → ByteString → ℕ → ℕ → Fault → Type 0
 IsUnready environment texts file before now (ConfigRead path) = (path ≡ file) × Rose before now
 IsUnready environment texts file before now (ConfigRefused fault) = IsFaultAt environment texts file fault
 IsUnready environment texts file before now WantOfMemory = Unit {0}
 IsUnready environment texts file before now other = ⊥
 
 -- the least instance that was lost, with its component's name and after how many bytes
-pub record IsLost (h : Record) (name : Word) (at i : ℕ) : Type 0 where
+pub record IsLost (h : Record) (name : ByteString) (at i : ℕ) : Type 0 where
   pub lost : lost_at h i ≡ Some at
   pub least : (j : ℕ) → j < i → lost_at h j ≡ None
   pub named : IsNameOf h i name
@@ -96,7 +96,7 @@ abbrev pub NoneLost : Record → Type 0
 NoneLost h = (i : ℕ) → lost_at h i ≡ None
 
 -- the least instance whose last confirm failed, with its component's name
-pub record IsUnconfirmed (h : Record) (name : Word) (i : ℕ) : Type 0 where
+pub record IsUnconfirmed (h : Record) (name : ByteString) (i : ℕ) : Type 0 where
   pub failed : is_unconfirmed h i ≡ true
   pub least : (j : ℕ) → j < i → is_unconfirmed h j ≡ false
   pub named : IsNameOf h i name
@@ -119,10 +119,10 @@ IsJudged h (Some WantOfMemory) = Unit {0}
 IsJudged h (Some other) = ⊥
 
 -- what each answer says: of the words, of the world's texts and its count of faults, and of the record
-abbrev pub IsAnswer : List Word → List Variable → Option (List Config) → ℕ → ℕ → Record → Option Fault → Type 0
+abbrev pub IsAnswer : List ByteString → List Variable → Option (List Config) → ℕ → ℕ → Record → Option Fault → Type 0
 IsAnswer words environment texts before now h (Some Usage) = IsNoCommand words
 IsAnswer words environment texts before now h (Some (ConfigRead path)) = NamesFile words path × Rose before now
 IsAnswer words environment texts before now h (Some (ConfigRefused fault)) = IsRefused words environment texts fault
-IsAnswer words environment texts before now h (Some PrintFailed) = (AsksStats words × IsJudged h None) ⊎ ((file : Word) × IsCommand words (Validate file))
+IsAnswer words environment texts before now h (Some PrintFailed) = (AsksStats words × IsJudged h None) ⊎ ((file : ByteString) × IsCommand words (Validate file))
 IsAnswer words environment texts before now h (Some WantOfMemory) = Unit {0}
 IsAnswer words environment texts before now h fault = IsJudged h fault

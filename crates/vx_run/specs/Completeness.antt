@@ -1,8 +1,8 @@
 -- What a run says in which nothing failed and nothing was refused.
 use Rattle.std.specs.Prelude.{◌≡◌, ◌⊎◌, ◌+◌, ◌≤◌, ◌^◌, ℕ, Bool, true, false, ◌||◌, List, [], ◌∷◌, ◌++◌, Option, Some, None, Ok}
-use Rattle.vx_value.specs.Texts.{Word}
+use Rattle.vx_value.specs.Texts.{ByteString}
 use Rattle.vx_value.specs.declared.variable.Variable.{Variable}
-use Rattle.vx_ends.specs.Told.{Told, Rose}
+use Rattle.vx_ends.specs.Observation.{Observation, Rose}
 use Rattle.vx_ends.specs.Texts.{text_at}
 use Rattle.vx_ends.specs.declared.world.Config.{Config}
 use Rattle.vx_status.specs.declared.batch_status.BatchStatus.TheVariants.{Errored, Rejected}
@@ -19,7 +19,7 @@ use Rattle.vx_record.specs.Installs.{source_at}
 use Rattle.vx_record.specs.Legal.{IsLegal}
 use Rattle.vx_record.specs.PortCounts.{is_refused}
 use Rattle.vx_record.specs.SinkBatches.{is_failed}
-use Rattle.vx_hub.specs.Remains.{AreNumbered, AreToldButGiven}
+use Rattle.vx_hub.specs.Remains.{AreNumbered, AreObservedButGiven}
 use Rattle.vx_hub.specs.declared.parts.Numbered.{Numbered}
 use Rattle.vx_cli.specs.declared.fault.Fault.{Fault}
 use Rattle.vx_cli.specs.declared.fault.Fault.TheVariants.{ConfigRefused, PrintFailed}
@@ -28,9 +28,9 @@ use Rattle.vx_run.specs.Answers.{AsksStats, IsAnswer, WentOn}
 use Rattle.vx_run.specs.Running.{HasInstalled, NoneMissing}
 
 -- no port tells of a failed call, nor of a refused one
-abbrev pub NoneFailed : {P : Type 0} → (P → Told) → List (Numbered P) → Type 0
-NoneFailed told_by [] = Unit {0}
-NoneFailed told_by (n ∷ ns) = ((told_by n.port).faults ≡ 0) × ((told_by n.port).refusals ≡ 0) × NoneFailed told_by ns
+abbrev pub NoneFailed : {P : Type 0} → (P → Observation) → List (Numbered P) → Type 0
+NoneFailed observe [] = Unit {0}
+NoneFailed observe (n ∷ ns) = ((observe n.port).faults ≡ 0) × ((observe n.port).refusals ≡ 0) × NoneFailed observe ns
 
 -- no birth and no split would have passed the last number
 abbrev pub NumbersSuffice : Record → Type 0
@@ -38,16 +38,16 @@ NumbersSuffice h = (later earlier : Record) (wanted : ℕ) → later ++ earlier 
 
 -- the words run a file, whose text the world tells and which stands for a plan; the world's count of failed reads stood still, and so
 -- did the printer's of failed prints where the words ask for counts; no port tells of a failure or a refusal, and the numbers of copies sufficed
-pub record IsFaultless {P : Type 0} (told_by : P → Told) (words : List Word) (environment : List Variable) (configs : List Config) (before now was is : ℕ) (h : Record) (ports : List (Numbered P)) : Type 0 where
-  pub file : Word
+pub record IsFaultless {P : Type 0} (observe : P → Observation) (words : List ByteString) (environment : List Variable) (configs : List Config) (before now was is : ℕ) (h : Record) (ports : List (Numbered P)) : Type 0 where
+  pub file : ByteString
   pub asked : IsRun words file
-  pub bytes : Word
+  pub bytes : ByteString
   pub text : text_at configs file ≡ Some bytes
   pub plan : Plan
   pub read : IsReading environment bytes (Ok plan)
   pub reads : Rose before now → ⊥
   pub prints : AsksStats words → Rose was is → ⊥
-  pub none_failed : NoneFailed told_by ports
+  pub none_failed : NoneFailed observe ports
   pub numbers : NumbersSuffice h
 
 -- the configuration was refused, though its text stands for a plan of these components: a condition of these has a pattern, and
@@ -89,11 +89,11 @@ NoneDueAtEnd =
     is_confirm_due earlier i ≡ false
 
 -- what `vector` ensures of a run that ended well, in which nothing failed and nothing was refused
-pub record HasEndedWell {P : Type 0} (told_by : P → Told) (words : List Word) (environment : List Variable) (configs : List Config) (before now was is : ℕ) (h : Record) (ports : List (Numbered P)) : Type 0 where
-  pub faultless : IsFaultless told_by words environment configs before now was is h ports
+pub record HasEndedWell {P : Type 0} (observe : P → Observation) (words : List ByteString) (environment : List Variable) (configs : List Config) (before now was is : ℕ) (h : Record) (ports : List (Numbered P)) : Type 0 where
+  pub faultless : IsFaultless observe words environment configs before now was is h ports
   pub legal : IsLegal h
   pub answer : IsAnswer words environment (Some configs) before now h None
   pub installed : HasInstalled words environment (Some configs) h None
   pub none_missing : NoneMissing words environment (Some configs) h ports None
-  pub told : AreToldButGiven told_by h ports
+  pub observed : AreObservedButGiven observe h ports
   pub numbers : AreNumbered 0 ports

@@ -4,14 +4,14 @@ use Rattle.vx_record.specs.Records.{Record}
 use Rattle.vx_record.specs.declared.abandon_cause.AbandonCause.{AbandonCause}
 use Rattle.vx_record.specs.declared.abandon_cause.AbandonCause.TheVariants as cause
 use Rattle.vx_hub.specs.declared.hub.Hub.{Hub}
-use Rattle.vx_hub.specs.Telling.{IsNameOf}
+use Rattle.vx_hub.specs.Reporting.{IsNameOf}
 use Rattle.vx_run.specs.Answers.{ButForMemory}
 use Rattle.vx_cli.specs.declared.fault.Fault.{Fault}
 use Rattle.vx_cli.specs.declared.fault.Fault.TheVariants.{Numbers, SourceFailed, ConfirmFailed, WantOfMemory}
 
--- but for want of memory, it was never wanting for what came home
+-- but for want of memory, it was never wanting for what came back
 abbrev pub IsSure : {P : Type 0} → Hub P → Option Fault → Type 0
-IsSure hub fault = ButForMemory (hub.books.run.short ≡ false) fault
+IsSure hub fault = ButForMemory (hub.engine.run.out_of_memory ≡ false) fault
 
 -- the fault of a source whose last confirm failed, with the name of its component, but for want of memory
 abbrev pub IsUnconfirmedAt : Record → ℕ → Fault → Type 0

@@ -5,5 +5,5 @@ pub mod Judging
 pub mod Merging
 pub mod Moments
 pub mod Running
-pub mod Telling
+pub mod Reporting
 pub mod Showing

@@ -1,8 +1,8 @@
 -- What a run leaves behind.
 use Rattle.std.specs.Prelude.{◌≡◌, ◌⊎◌, ℕ, Bool, true, List, [], ◌∷◌, length, Option, Some, None, IsSome, IsSomeAnd}
-use Rattle.vx_value.specs.Texts.{Word}
+use Rattle.vx_value.specs.Texts.{ByteString}
 use Rattle.vx_value.specs.declared.variable.Variable.{Variable}
-use Rattle.vx_ends.specs.Told.{Told}
+use Rattle.vx_ends.specs.Observation.{Observation}
 use Rattle.vx_ends.specs.declared.world.Config.{Config}
 use Rattle.vx_plan.specs.declared.plan.Plan.{Plan}
 use Rattle.vx_record.specs.Records.{Record}
@@ -14,7 +14,7 @@ use Rattle.vx_record.specs.Ceasing.{lost_at}
 use Rattle.vx_record.specs.declared.tally.Tally.{Tally}
 use Rattle.vx_moves.specs.Returns.{HaveReturned}
 use Rattle.vx_hub.specs.declared.parts.Numbered.{Numbered}
-use Rattle.vx_hub.specs.Remains.{AreTold, AreToldButGiven}
+use Rattle.vx_hub.specs.Remains.{AreObserved, AreObservedButGiven}
 use Rattle.vx_hub.specs.Standing.{GoesOn}
 use Rattle.vx_run.specs.Answers.{ButForMemory, IsReady, IsValid, WentOn}
 use Rattle.vx_cli.specs.Commands.{has_once}
@@ -22,16 +22,16 @@ use Rattle.vx_cli.specs.declared.fault.Fault.{Fault}
 use Rattle.vx_cli.specs.declared.fault.Fault.TheVariants.{Usage, ConfigRead, ConfigRefused, SourceFailed, ConfirmFailed, PrintFailed, WantOfMemory}
 
 -- the ports tell what the record has, but that where memory was wanting they may have been given more
-pub record IsTrueTo {P : Type 0} (told_by : P → Told) (h : Record) (ports : List (Numbered P)) (fault : Option Fault) : Type 0 where
-  pub whole : ButForMemory (AreTold told_by h ports) fault
-  pub rest : AreToldButGiven told_by h ports
+pub record IsTrueTo {P : Type 0} (observe : P → Observation) (h : Record) (ports : List (Numbered P)) (fault : Option Fault) : Type 0 where
+  pub whole : ButForMemory (AreObserved observe h ports) fault
+  pub rest : AreObservedButGiven observe h ports
 
 -- each instance with a device has its port
 abbrev pub AreThere : {P : Type 0} → Record → List (Numbered (Option P)) → Type 0
 AreThere h [] = Unit {0}
 AreThere h (n ∷ ns) = (device_at h n.instance ≡ true → IsSome n.port) × AreThere h ns
 
--- but for want of memory, each instance that came home had returned
+-- but for want of memory, each instance that came back had returned
 abbrev pub AllReturned : Record → Option Fault → Type 0
 AllReturned h fault = ButForMemory (HaveReturned h) fault
 
@@ -42,19 +42,19 @@ pub record Began (once : Bool) (plan : Plan) (h : Record) : Type 0 where
   pub installed : in_force h ≡ Some plan
 
 -- that plan is that of the file for which the words ask, and files end with what they have exactly where the words ask for that
-pub record IsInstalled (words : List Word) (environment : List Variable) (texts : Option (List Config)) (h : Record) : Type 0 where
+pub record IsInstalled (words : List ByteString) (environment : List Variable) (texts : Option (List Config)) (h : Record) : Type 0 where
   pub plan : Plan
   pub ready : IsReady words environment texts plan
   pub began : Began (has_once words) plan h
 
 -- a configuration was judged and stands for a plan, and nothing began
-pub record IsOnlyJudged (words : List Word) (environment : List Variable) (texts : Option (List Config)) (h : Record) : Type 0 where
+pub record IsOnlyJudged (words : List ByteString) (environment : List Variable) (texts : Option (List Config)) (h : Record) : Type 0 where
   pub plan : Plan
   pub valid : IsValid words environment texts plan
   pub unbegun : h ≡ []
 
 -- a run that began has that plan in force; or the words ask for a judgement alone. For want of memory nothing may have begun
-abbrev pub HasInstalled : List Word → List Variable → Option (List Config) → Record → Option Fault → Type 0
+abbrev pub HasInstalled : List ByteString → List Variable → Option (List Config) → Record → Option Fault → Type 0
 HasInstalled words environment texts h None = IsInstalled words environment texts h ⊎ IsOnlyJudged words environment texts h
 HasInstalled words environment texts h (Some Usage) = Unit {0}
 HasInstalled words environment texts h (Some (ConfigRead path)) = Unit {0}
@@ -88,7 +88,7 @@ abbrev pub HasAll : {P : Type 0} → List (Numbered P) → Plan → Type 0
 HasAll ports plan = length ports ≡ length plan.components
 
 -- the words ask for a run of a plan, for each component of which there is a port
-pub record HasAllAsked {P : Type 0} (words : List Word) (environment : List Variable) (texts : Option (List Config)) (ports : List (Numbered P)) : Type 0 where
+pub record HasAllAsked {P : Type 0} (words : List ByteString) (environment : List Variable) (texts : Option (List Config)) (ports : List (Numbered P)) : Type 0 where
   pub plan : Plan
   pub ready : IsReady words environment texts plan
   pub each : HasAll ports plan
@@ -104,7 +104,7 @@ HasEach plan h ports (Some WantOfMemory) = IsUnbegun h ports ⊎ HasAll ports pl
 HasEach plan h ports fault = HasAll ports plan
 
 -- no port is missing
-abbrev pub NoneMissing : {P : Type 0} → List Word → List Variable → Option (List Config) → Record → List (Numbered P) → Option Fault → Type 0
+abbrev pub NoneMissing : {P : Type 0} → List ByteString → List Variable → Option (List Config) → Record → List (Numbered P) → Option Fault → Type 0
 NoneMissing words environment texts h ports None = IsSomeAnd (in_force h) (HasAll ports) ⊎ (IsOnlyJudged words environment texts h × IsUnbegun h ports)
 NoneMissing words environment texts h ports (Some PrintFailed) = IsSomeAnd (in_force h) (HasAll ports) ⊎ (IsOnlyJudged words environment texts h × IsUnbegun h ports)
 NoneMissing words environment texts h ports (Some Usage) = IsUnbegun h ports

@@ -3,7 +3,7 @@
 
 ghost use Rattle.std.specs.Prelude.{◌≡◌, ◌⊎◌, ◌∷◌, ◌++◌, ℕ, Bool, true, List, Option, Some, None};
 ghost use Rattle.vx_ends.specs.declared.world.Config.{Config};
-ghost use Rattle.vx_value.specs.Texts.{Word};
+ghost use Rattle.vx_value.specs.Texts.{ByteString};
 ghost use Rattle.vx_value.specs.declared.variable.Variable.{Variable};
 ghost use Rattle.vx_status.specs.declared.batch_status.BatchStatus.{BatchStatus};
 ghost use Rattle.vx_status.specs.declared.batch_status.BatchStatus.TheVariants.{Delivered};
@@ -11,7 +11,7 @@ ghost use Rattle.vx_ends.specs.declared.position.Position.{Position};
 ghost use Rattle.vx_record.specs.declared.entry.Entry.TheVariants.{Notice, Confirm};
 ghost use Rattle.vx_record.specs.Legal.{IsLegal};
 ghost use Rattle.vx_record.specs.Records.{Record};
-ghost use Rattle.vx_hub.specs.Remains.{AreNumbered, AreToldButGiven};
+ghost use Rattle.vx_hub.specs.Remains.{AreNumbered, AreObservedButGiven};
 ghost use Rattle.vx_hub.specs.declared.parts.Numbered.{Numbered};
 ghost use Rattle.vx_cli.specs.declared.fault.Fault.{Fault};
 ghost use Rattle.vx_cli.specs.declared.fault.Fault.TheVariants.{WantOfMemory};
@@ -26,7 +26,7 @@ use vx_reading::one_answer;
 
 /// A failed print is told only where the printer's count of failed prints rose.
 pub fn failed_prints<P: Printer>()
-    ensures { (words : List Word) (environment : List Variable) (texts : Option (List Config))
+    ensures { (words : List ByteString) (environment : List Variable) (texts : Option (List Config))
         (h : Record) (old new : P) (fault : Option Fault) →
         IsShown words environment texts h (new ≡ old) (P.printed old) (P.printed new) (P.faults old)
         (P.faults new) fault → PrintBlames (P.faults old) (P.faults new) fault }
@@ -35,11 +35,11 @@ pub fn failed_prints<P: Printer>()
 /// A run in which nothing failed and nothing was refused ends well, or for want of memory; or its text was refused, though it stands
 /// for a plan, since a condition of that has a pattern.
 pub fn faultless_answers<P: Port>()
-    ensures { (words : List Word) (environment : List Variable) (configs : List Config)
+    ensures { (words : List ByteString) (environment : List Variable) (configs : List Config)
         (before now was is : ℕ) (h : Record) (ports : List (Numbered P)) (fault : Option Fault) →
-        (faultless : IsFaultless P.told words environment configs before now was is h ports) →
+        (faultless : IsFaultless P.observed words environment configs before now was is h ports) →
         IsLegal h → IsAnswer words environment (Some configs) before now h fault →
-        PrintBlames was is fault → AreToldButGiven P.told h ports → AreNumbered 0 ports →
+        PrintBlames was is fault → AreObservedButGiven P.observed h ports → AreNumbered 0 ports →
         NoneMissing words environment (Some configs) h ports fault →
         (fault ≡ None)
         ⊎ ((fault ≡ Some WantOfMemory) ⊎ IsRefusedAnew faultless.plan.components fault) }
@@ -50,11 +50,11 @@ pub fn faultless_answers<P: Port>()
 
 /// A run that ended well wasn't given up, each source was told its end, and no last confirm failed.
 pub fn well_ended()
-    ensures going { (words : List Word) (environment : List Variable) (texts : Option (List Config))
+    ensures going { (words : List ByteString) (environment : List Variable) (texts : Option (List Config))
         (before now : ℕ) (h : Record) → IsAnswer words environment texts before now h None →
         WentOn h }
     ensures read { (h : Record) → IsReadOut h None → AllRead h }
-    ensures confirmed { (words : List Word) (environment : List Variable)
+    ensures confirmed { (words : List ByteString) (environment : List Variable)
         (texts : Option (List Config)) (before now : ℕ) (h : Record) →
         IsAnswer words environment texts before now h None → AllConfirmed h }
 {}
@@ -72,9 +72,9 @@ pub fn blamed_notices()
 
 /// Where nothing failed and nothing was refused, each confirm of a run that ended well was made.
 pub fn faultless_confirms<P: Port>()
-    ensures { (words : List Word) (environment : List Variable) (configs : List Config)
+    ensures { (words : List ByteString) (environment : List Variable) (configs : List Config)
         (before now was is : ℕ) (h : Record) (ports : List (Numbered P)) →
-        HasEndedWell P.told words environment configs before now was is h ports →
+        HasEndedWell P.observed words environment configs before now was is h ports →
         (later earlier : Record) (i : ℕ) (positions : List Position) (made : Bool) →
         later ++ Confirm i positions made ∷ earlier ≡ h → made ≡ true }
 {
@@ -83,9 +83,9 @@ pub fn faultless_confirms<P: Port>()
 
 /// Where nothing failed and nothing was refused, each notice of a run that ended well says Delivered.
 pub fn faultless_notices<P: Port>()
-    ensures { (words : List Word) (environment : List Variable) (configs : List Config)
+    ensures { (words : List ByteString) (environment : List Variable) (configs : List Config)
         (before now was is : ℕ) (h : Record) (ports : List (Numbered P)) →
-        HasEndedWell P.told words environment configs before now was is h ports →
+        HasEndedWell P.observed words environment configs before now was is h ports →
         (later earlier : Record) (b : ℕ) (status : BatchStatus) →
         later ++ Notice b status ∷ earlier ≡ h → status ≡ Delivered }
 {

@@ -1,5 +1,5 @@
 ghost use Rattle.std.specs.Prelude.{◌≡◌, ◌<◌, length};
-ghost use Rattle.vx_moves.specs.Rooms.{IsHandOf};
+ghost use Rattle.vx_moves.specs.Capacities.{IsHeldLimitOf};
 ghost use Rattle.vx_tasks.specs.Out.{HasLeft};
 ghost use Rattle.vx_hub.specs.Ending.{IsOver};
 ghost use Rattle.vx_hub.specs.Failures.{HasReason, abandon_cause};
@@ -25,11 +25,11 @@ const MOVES: u32 = 64;
 
 /// Turns a hub until each of its instances ended.
 pub(crate) fn drive<R: Wait, P: Port, C: Clock>(rt: &R, alloc: Global, hub: &mut Hub<P>, clock: &C)
-    requires hub { IsHub P.told hub.old }
-    requires moment { C.gave clock.now hub.old.books.run.latest }
-    ensures hub { IsHub P.told hub.new }
-    ensures over { IsOver hub.new.books.log }
-    ensures on { OnlyAdds (IsTimely (C.gave clock.now)) hub.old.books.log hub.new.books.log }
+    requires hub { IsHub P.observed hub.old }
+    requires moment { C.gave clock.now hub.old.engine.run.latest }
+    ensures hub { IsHub P.observed hub.new }
+    ensures over { IsOver hub.new.engine.log }
+    ensures on { OnlyAdds (IsTimely (C.gave clock.now)) hub.old.engine.log hub.new.engine.log }
 {
     for _ in rt.forever() {
         if hub.over() {
@@ -48,11 +48,11 @@ const REST: u64 = 20;
 ///
 /// A source is so read only where nothing waits that can move, since a read may wait for long.
 fn turn<P: Port, C: Clock>(alloc: Global, hub: &mut Hub<P>, clock: &C)
-    requires hub { IsHub P.told hub.old }
-    requires moment { C.gave clock.now hub.old.books.run.latest }
-    ensures hub { IsHub P.told hub.new }
-    ensures on { OnlyAdds (IsTimely (C.gave clock.now)) hub.old.books.log hub.new.books.log }
-    ensures moment { C.gave clock.now hub.new.books.run.latest }
+    requires hub { IsHub P.observed hub.old }
+    requires moment { C.gave clock.now hub.old.engine.run.latest }
+    ensures hub { IsHub P.observed hub.new }
+    ensures on { OnlyAdds (IsTimely (C.gave clock.now)) hub.old.engine.log hub.new.engine.log }
+    ensures moment { C.gave clock.now hub.new.engine.run.latest }
 {
     drain(alloc, hub, clock);
     if move_parcels(hub) {
@@ -74,7 +74,7 @@ fn turn<P: Port, C: Clock>(alloc: Global, hub: &mut Hub<P>, clock: &C)
 
 /// Waits until the soonest moment for which an instance waits or from which on one is to act by itself, and not for long.
 fn rest<P: Port, C: Clock>(hub: &Hub<P>, clock: &C, now: u64)
-    requires { IsHub P.told hub.now }
+    requires { IsHub P.observed hub.now }
 {
     let longest = now.saturating_add(REST);
     let due = hub.due().unwrap_or(longest);
@@ -84,11 +84,11 @@ fn rest<P: Port, C: Clock>(hub: &Hub<P>, clock: &C, now: u64)
 
 /// Lets sinks take and write what they have, though parcels wait to be moved: a look at all that wait behind full buffers costs.
 fn drain<P: Port, C: Clock>(alloc: Global, hub: &mut Hub<P>, clock: &C)
-    requires hub { IsHub P.told hub.old }
-    requires moment { C.gave clock.now hub.old.books.run.latest }
-    ensures hub { IsHub P.told hub.new }
-    ensures on { OnlyAdds (IsTimely (C.gave clock.now)) hub.old.books.log hub.new.books.log }
-    ensures moment { C.gave clock.now hub.new.books.run.latest }
+    requires hub { IsHub P.observed hub.old }
+    requires moment { C.gave clock.now hub.old.engine.run.latest }
+    ensures hub { IsHub P.observed hub.new }
+    ensures on { OnlyAdds (IsTimely (C.gave clock.now)) hub.old.engine.log hub.new.engine.log }
+    ensures moment { C.gave clock.now hub.new.engine.run.latest }
 {
     for _ in 0..TASKS {
         let now = clock.now();
@@ -101,10 +101,10 @@ fn drain<P: Port, C: Clock>(alloc: Global, hub: &mut Hub<P>, clock: &C)
 
 /// Moves parcels on, while an instance has some that can move. Tells whether one had.
 fn move_parcels<P: Port>(hub: &mut Hub<P>) -> bool
-    requires hub { IsHub P.told hub.old }
-    ensures hub { IsHub P.told hub.new }
-    ensures on { OnlyAdds IsTimeless hub.old.books.log hub.new.books.log }
-    ensures latest { hub.new.books.run.latest ≡ hub.old.books.run.latest }
+    requires hub { IsHub P.observed hub.old }
+    ensures hub { IsHub P.observed hub.new }
+    ensures on { OnlyAdds IsTimeless hub.old.engine.log hub.new.engine.log }
+    ensures latest { hub.new.engine.run.latest ≡ hub.old.engine.run.latest }
 {
     for moved in 0..MOVES {
         match hub.pending() {
@@ -117,25 +117,25 @@ fn move_parcels<P: Port>(hub: &mut Hub<P>) -> bool
 
 /// Splits and pushes what an instance has made.
 fn push<P: Port>(hub: &mut Hub<P>, instance: u32)
-    requires hub { IsHub P.told hub.old }
-    requires within { instance < length hub.old.books.seats }
-    ensures hub { IsHub P.told hub.new }
-    ensures on { OnlyAdds IsTimeless hub.old.books.log hub.new.books.log }
-    ensures latest { hub.new.books.run.latest ≡ hub.old.books.run.latest }
+    requires hub { IsHub P.observed hub.old }
+    requires within { instance < length hub.old.engine.states }
+    ensures hub { IsHub P.observed hub.new }
+    ensures on { OnlyAdds IsTimeless hub.old.engine.log hub.new.engine.log }
+    ensures latest { hub.new.engine.run.latest ≡ hub.old.engine.run.latest }
 {
     if let Err(fatal) = hub.push_pending(instance) {
         give_up(hub, fatal);
     }
 }
 
-/// Hands out a task at a moment, if one has work, does its work, and brings it home. Tells whether one had.
+/// Hands out a task at a moment, if one has work, does its work, and brings it back. Tells whether one had.
 fn lease<P: Port, C: Clock>(alloc: Global, hub: &mut Hub<P>, clock: &C, now: u64) -> bool
-    requires hub { IsHub P.told hub.old }
+    requires hub { IsHub P.observed hub.old }
     requires given { C.gave clock.now now }
-    requires moment { C.gave clock.now hub.old.books.run.latest }
-    ensures hub { IsHub P.told hub.new }
-    ensures on { OnlyAdds (IsTimely (C.gave clock.now)) hub.old.books.log hub.new.books.log }
-    ensures moment { C.gave clock.now hub.new.books.run.latest }
+    requires moment { C.gave clock.now hub.old.engine.run.latest }
+    ensures hub { IsHub P.observed hub.new }
+    ensures on { OnlyAdds (IsTimely (C.gave clock.now)) hub.old.engine.log hub.new.engine.log }
+    ensures moment { C.gave clock.now hub.new.engine.run.latest }
 {
     match hub.lease(WORKER, now) {
         Some(work) => {
@@ -149,11 +149,11 @@ fn lease<P: Port, C: Clock>(alloc: Global, hub: &mut Hub<P>, clock: &C, now: u64
 /// Has an instance that merges events answer what it took, act by itself or put out what is left, if one has to. Tells whether one
 /// had.
 fn merge<P: Port, C: Clock>(hub: &mut Hub<P>, clock: &C) -> bool
-    requires hub { IsHub P.told hub.old }
-    requires moment { C.gave clock.now hub.old.books.run.latest }
-    ensures hub { IsHub P.told hub.new }
-    ensures on { OnlyAdds (IsTimely (C.gave clock.now)) hub.old.books.log hub.new.books.log }
-    ensures moment { C.gave clock.now hub.new.books.run.latest }
+    requires hub { IsHub P.observed hub.old }
+    requires moment { C.gave clock.now hub.old.engine.run.latest }
+    ensures hub { IsHub P.observed hub.new }
+    ensures on { OnlyAdds (IsTimely (C.gave clock.now)) hub.old.engine.log hub.new.engine.log }
+    ensures moment { C.gave clock.now hub.new.engine.run.latest }
 {
     match hub.merge(WORKER, clock.now()) {
         Ok(merged) => merged,
@@ -166,23 +166,23 @@ fn merge<P: Port, C: Clock>(hub: &mut Hub<P>, clock: &C) -> bool
 
 /// Ends an instance, if one may end. Tells whether one did.
 fn retire<P: Port>(hub: &mut Hub<P>) -> bool
-    requires hub { IsHub P.told hub.old }
-    ensures hub { IsHub P.told hub.new }
-    ensures on { OnlyAdds IsTimeless hub.old.books.log hub.new.books.log }
-    ensures latest { hub.new.books.run.latest ≡ hub.old.books.run.latest }
+    requires hub { IsHub P.observed hub.old }
+    ensures hub { IsHub P.observed hub.new }
+    ensures on { OnlyAdds IsTimeless hub.old.engine.log hub.new.engine.log }
+    ensures latest { hub.new.engine.run.latest ≡ hub.old.engine.run.latest }
 {
     hub.retire().is_some()
 }
 
-/// Does the work of a task that was handed out, and brings it home.
+/// Does the work of a task that was handed out, and brings it back.
 fn land<P: Port, C: Clock>(alloc: Global, hub: &mut Hub<P>, work: Work<P>, clock: &C)
-    requires hub { IsHub P.told hub.old }
-    requires left { HasLeft P.told hub.old.books.log work }
-    requires room { IsHandOf hub.old.books.log work.instance work.held.room }
-    requires within { work.instance < length hub.old.books.seats }
-    ensures hub { IsHub P.told hub.new }
-    ensures on { OnlyAdds IsTimeless hub.old.books.log hub.new.books.log }
-    ensures latest { hub.new.books.run.latest ≡ hub.old.books.run.latest }
+    requires hub { IsHub P.observed hub.old }
+    requires left { HasLeft P.observed hub.old.engine.log work }
+    requires room { IsHeldLimitOf hub.old.engine.log work.instance work.held.room }
+    requires within { work.instance < length hub.old.engine.states }
+    ensures hub { IsHub P.observed hub.new }
+    ensures on { OnlyAdds IsTimeless hub.old.engine.log hub.new.engine.log }
+    ensures latest { hub.new.engine.run.latest ≡ hub.old.engine.run.latest }
 {
     let landing = work.work(alloc, clock);
     if let Err(fatal) = hub.land(landing) {
@@ -192,11 +192,11 @@ fn land<P: Port, C: Clock>(alloc: Global, hub: &mut Hub<P>, work: Work<P>, clock
 
 /// Gives a run up that can't go on, once.
 fn give_up<P: Port>(hub: &mut Hub<P>, fatal: Fatal)
-    requires hub { IsHub P.told hub.old }
-    requires reason { HasReason hub.old.books.log fatal }
-    ensures hub { IsHub P.told hub.new }
-    ensures on { OnlyAdds IsTimeless hub.old.books.log hub.new.books.log }
-    ensures latest { hub.new.books.run.latest ≡ hub.old.books.run.latest }
+    requires hub { IsHub P.observed hub.old }
+    requires reason { HasReason hub.old.engine.log fatal }
+    ensures hub { IsHub P.observed hub.new }
+    ensures on { OnlyAdds IsTimeless hub.old.engine.log hub.new.engine.log }
+    ensures latest { hub.new.engine.run.latest ≡ hub.old.engine.run.latest }
 {
     if hub.abandoned().is_none() {
         hub.abandon(abandon_cause(fatal));

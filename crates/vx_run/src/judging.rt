@@ -23,9 +23,9 @@ struct Lost {
 /// Why a run that ended didn't end well. Of several faults it is the first in this order: want of memory, used up
 /// numbers, a lost source, and a source whose last confirm failed, the least instance first.
 pub(crate) fn judge<P: Port>(alloc: Global, hub: &Hub<P>) -> Option<Fault>
-    requires { IsHub P.told hub.now }
+    requires { IsHub P.observed hub.now }
     ensures sure { IsSure hub.now result }
-    ensures judged { IsJudged hub.now.books.log result }
+    ensures judged { IsJudged hub.now.engine.log result }
 {
     if hub.starved() {
         return Some(Fault::WantOfMemory);
@@ -33,15 +33,15 @@ pub(crate) fn judge<P: Port>(alloc: Global, hub: &Hub<P>) -> Option<Fault>
     judge_fed(alloc, hub)
 }
 
-/// The same, of a run in which memory was never wanting for what came home.
+/// The same, of a run in which memory was never wanting for what came back.
 fn judge_fed<P: Port>(alloc: Global, hub: &Hub<P>) -> Option<Fault>
-    requires hub { IsHub P.told hub.now }
-    requires fed { hub.now.books.run.short ≡ false }
+    requires hub { IsHub P.observed hub.now }
+    requires fed { hub.now.engine.run.out_of_memory ≡ false }
     ensures sure { IsSure hub.now result }
-    ensures judged { IsJudged hub.now.books.log result }
+    ensures judged { IsJudged hub.now.engine.log result }
 {
     match hub.abandoned() {
-        None => judge_whole(alloc, hub),
+        None => judge_unabandoned(alloc, hub),
         Some(cause) => Some(fault_of(cause)),
     }
 }
@@ -63,10 +63,10 @@ fn fault_of(cause: AbandonCause) -> Fault
 }
 
 /// The same, of a run that wasn't given up.
-fn judge_whole<P: Port>(alloc: Global, hub: &Hub<P>) -> Option<Fault>
-    requires hub { IsHub P.told hub.now }
-    requires goes_on { WentOn hub.now.books.log }
-    ensures judged { IsJudged hub.now.books.log result }
+fn judge_unabandoned<P: Port>(alloc: Global, hub: &Hub<P>) -> Option<Fault>
+    requires hub { IsHub P.observed hub.now }
+    requires goes_on { WentOn hub.now.engine.log }
+    ensures judged { IsJudged hub.now.engine.log result }
 {
     match first_lost(hub) {
         None => judge_confirms(alloc, hub),
@@ -76,10 +76,10 @@ fn judge_whole<P: Port>(alloc: Global, hub: &Hub<P>) -> Option<Fault>
 
 /// The same, of a run that lost no source.
 fn judge_confirms<P: Port>(alloc: Global, hub: &Hub<P>) -> Option<Fault>
-    requires hub { IsHub P.told hub.now }
-    requires goes_on { WentOn hub.now.books.log }
-    requires kept { NoneLost hub.now.books.log }
-    ensures judged { IsJudged hub.now.books.log result }
+    requires hub { IsHub P.observed hub.now }
+    requires goes_on { WentOn hub.now.engine.log }
+    requires kept { NoneLost hub.now.engine.log }
+    ensures judged { IsJudged hub.now.engine.log result }
 {
     match first_unconfirmed(hub) {
         None => None,
@@ -89,14 +89,14 @@ fn judge_confirms<P: Port>(alloc: Global, hub: &Hub<P>) -> Option<Fault>
 
 /// The least instance whose last confirm failed.
 fn first_unconfirmed<P: Port>(hub: &Hub<P>) -> Option<u32>
-    requires { IsHub P.told hub.now }
-    ensures within { IfSome result (λ i. i < length (started hub.now.books.log)) }
-    ensures failed { IfSome result (λ i. is_unconfirmed hub.now.books.log i ≡ true) }
+    requires { IsHub P.observed hub.now }
+    ensures within { IfSome result (λ i. i < length (started hub.now.engine.log)) }
+    ensures failed { IfSome result (λ i. is_unconfirmed hub.now.engine.log i ≡ true) }
     ensures least { IfSome result
-        (λ i. (j : ℕ) → j < i → is_unconfirmed hub.now.books.log j ≡ false) }
+        (λ i. (j : ℕ) → j < i → is_unconfirmed hub.now.engine.log j ≡ false) }
     ensures none { IfNone result
-        ((j : ℕ) → j < length (started hub.now.books.log) →
-        is_unconfirmed hub.now.books.log j ≡ false) }
+        ((j : ℕ) → j < length (started hub.now.engine.log) →
+        is_unconfirmed hub.now.engine.log j ≡ false) }
 {
     for instance in 0..hub.instances() {
         if hub.unconfirmed(instance) {
@@ -109,9 +109,9 @@ fn first_unconfirmed<P: Port>(hub: &Hub<P>) -> Option<u32>
 /// The fault of a source whose last confirm failed, with its component's name, or want of memory where none is found
 /// for the name.
 fn confirm_failed<P: Port>(alloc: Global, hub: &Hub<P>, instance: u32) -> Fault
-    requires hub { IsHub P.told hub.now }
-    requires within { instance < length (started hub.now.books.log) }
-    ensures { IsUnconfirmedAt hub.now.books.log instance result }
+    requires hub { IsHub P.observed hub.now }
+    requires within { instance < length (started hub.now.engine.log) }
+    ensures { IsUnconfirmedAt hub.now.engine.log instance result }
 {
     match hub.name_of(instance).copy(alloc) {
         Ok(name) => Fault::ConfirmFailed { name },
@@ -121,13 +121,13 @@ fn confirm_failed<P: Port>(alloc: Global, hub: &Hub<P>, instance: u32) -> Fault
 
 /// The least instance that was lost.
 fn first_lost<P: Port>(hub: &Hub<P>) -> Option<Lost>
-    requires { IsHub P.told hub.now }
-    ensures within { IfSome result (λ lost. lost.instance < length (started hub.now.books.log)) }
-    ensures lost { IfSome result (λ lost. lost_at hub.now.books.log lost.instance ≡ Some lost.at) }
+    requires { IsHub P.observed hub.now }
+    ensures within { IfSome result (λ lost. lost.instance < length (started hub.now.engine.log)) }
+    ensures lost { IfSome result (λ lost. lost_at hub.now.engine.log lost.instance ≡ Some lost.at) }
     ensures least { IfSome result
-        (λ lost. (i : ℕ) → i < lost.instance → lost_at hub.now.books.log i ≡ None) }
+        (λ lost. (i : ℕ) → i < lost.instance → lost_at hub.now.engine.log i ≡ None) }
     ensures none { IfNone result
-        ((i : ℕ) → i < length (started hub.now.books.log) → lost_at hub.now.books.log i ≡ None) }
+        ((i : ℕ) → i < length (started hub.now.engine.log) → lost_at hub.now.engine.log i ≡ None) }
 {
     for instance in 0..hub.instances() {
         if let Some(at) = hub.lost(instance) {
@@ -139,9 +139,9 @@ fn first_lost<P: Port>(hub: &Hub<P>) -> Option<Lost>
 
 /// The fault of a source that was lost, with its component's name, or want of memory where none is found for the name.
 fn source_failed<P: Port>(alloc: Global, hub: &Hub<P>, lost: Lost) -> Fault
-    requires hub { IsHub P.told hub.now }
-    requires within { lost.instance < length (started hub.now.books.log) }
-    ensures { IsNamed hub.now.books.log lost.instance lost.at result }
+    requires hub { IsHub P.observed hub.now }
+    requires within { lost.instance < length (started hub.now.engine.log) }
+    ensures { IsNamed hub.now.engine.log lost.instance lost.at result }
 {
     match hub.name_of(lost.instance).copy(alloc) {
         Ok(name) => Fault::SourceFailed { name, at: lost.at },

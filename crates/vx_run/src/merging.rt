@@ -1,6 +1,6 @@
 // By what a component merges events.
 ghost use Rattle.std.specs.Prelude.{◌≡◌, ◌++◌, List, IfOk};
-ghost use Rattle.vx_value.specs.Texts.{Word};
+ghost use Rattle.vx_value.specs.Texts.{ByteString};
 ghost use Rattle.vx_plan.specs.Options.{if_any};
 ghost use Rattle.vx_reading.specs.Conditions.{conditions_by};
 ghost use Rattle.vx_run.specs.Merging.{merging_of};
@@ -47,7 +47,7 @@ pub(crate) fn reduce_settings_of(
 
 /// The last of some conditions, where there is a text that is its; otherwise none, and all stay.
 fn last_for(conditions: &mut ConditionList, text: &Option<Text>) -> Option<Condition>
-    ensures { (others : List Word) → conditions.old ≡ others ++ if_any text.now →
+    ensures { (others : List ByteString) → conditions.old ≡ others ++ if_any text.now →
         (result ≡ text.now) × (conditions.new ≡ others) }
 {
     match text {

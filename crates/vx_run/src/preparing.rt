@@ -1,8 +1,8 @@
 ghost use Rattle.std.specs.Prelude.{◌≡◌, ◌≢◌, ◌↔◌, ◌<◌, ◌^◌, [], ◌∷◌, length, map, true, false, Ok, Err, Some, None, IfOk, IfErr, IfSome, IsSomeAnd, OnOk, OnErr};
 ghost use Rattle.vx_ends.specs.Texts.{IsTextAt};
 ghost use Rattle.std.specs.List.{list_all};
-ghost use Rattle.vx_ends.specs.Silent.{told_if};
-ghost use Rattle.vx_ends.specs.Told.{Grows, Rose};
+ghost use Rattle.vx_ends.specs.Silent.{observed_if};
+ghost use Rattle.vx_ends.specs.Observation.{Grows, Rose};
 ghost use Rattle.vx_ends.specs.declared.call.Call.TheVariants as call;
 ghost use Rattle.vx_plan.specs.Accepted.{IsPlan};
 ghost use Rattle.vx_plan.specs.Ports.{port_of};
@@ -42,7 +42,7 @@ pub fn prepare<W: World>(
     ensures bare { IfOk result (λ parts. AreBare parts.keepers) }
     ensures ports { IfOk result (λ parts. length parts.ports ≡ length parts.plan.components) }
     ensures untouched { IfOk result
-        (λ parts. AreUntouched (told_if W.Port.told)
+        (λ parts. AreUntouched (observed_if W.Port.observed)
         (port_of parts.once parts.plan.global.data_dir) parts.plan.components parts.ports) }
     ensures unready { IfErr result
         (IsUnready environment.now (W.texts world.old) file.now (W.faults world.old)
@@ -140,7 +140,7 @@ fn ports<W: World>(
 ) -> Result<NamedList<Option<W::Port>>, WantOfMemory>
     ensures count { IfOk result (λ ports. length ports ≡ length plan.now.components) }
     ensures untouched { IfOk result
-        (λ ports. AreUntouched (told_if W.Port.told)
+        (λ ports. AreUntouched (observed_if W.Port.observed)
         (port_of once plan.now.global.data_dir) plan.now.components ports) }
     ensures called { OnOk result
         (Grows (W.calls world.old) (W.calls world.new)
@@ -172,7 +172,7 @@ fn port<W: World>(
 ) -> Result<Named<Option<W::Port>>, WantOfMemory>
     ensures untouched { IfOk result
         (λ named. IsUntouched (port_of once plan.now.global.data_dir component.now)
-        (told_if W.Port.told named.port)) }
+        (observed_if W.Port.observed named.port)) }
     ensures called { OnOk result
         (Grows (W.calls world.old) (W.calls world.new)
         (call_of (port_of once plan.now.global.data_dir component.now))) }

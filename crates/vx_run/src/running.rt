@@ -1,5 +1,5 @@
 ghost use Rattle.std.specs.Prelude.{◌≡◌, ◌≢◌, ◌⊎◌, ◌&&◌, List, ◌<◌, ◌^◌, [], length, true, false, Some, None, IfOk, if◌then◌else◌};
-ghost use Rattle.vx_ends.specs.Silent.{told_if};
+ghost use Rattle.vx_ends.specs.Silent.{observed_if};
 ghost use Rattle.vx_plan.specs.Accepted.{IsPlan};
 ghost use Rattle.vx_plan.specs.Ports.{port_of};
 ghost use Rattle.vx_record.specs.Installs.{started};
@@ -7,7 +7,7 @@ ghost use Rattle.vx_record.specs.TallyLists.{tallies_of};
 ghost use Rattle.vx_hub.specs.Making.{AreUntouched, ArePickers, AreSlots, AreBare, all_served};
 ghost use Rattle.vx_hub.specs.Remains.{HasEnded, AreNumbered, AreClosed};
 ghost use Rattle.vx_hub.specs.Standing.{IsHub, IsSameRun, GoesOn};
-ghost use Rattle.vx_value.specs.Texts.{Word};
+ghost use Rattle.vx_value.specs.Texts.{ByteString};
 ghost use Rattle.vx_cli.specs.Commands.{IsRun, has_once};
 ghost use Rattle.vx_run.specs.Answers.{IsAnswer, IsJudged};
 ghost use Rattle.vx_run.specs.Calling.{HasCalled};
@@ -54,14 +54,14 @@ pub(crate) fn perform<R: Wait, W: World, C: Clock, P: Printer>(
     ensures summary { IsSummary words.now result.history result.fault result.summary }
     ensures shown { IsShownFirst words.now environment.now (W.texts world.old) (out.new ≡ out.old)
         (P.printed out.old) (P.printed out.new) (P.faults out.old) (P.faults out.new) result.fault }
-    ensures told { IsTrueTo (told_if W.Port.told) result.history result.ports result.fault }
+    ensures observed { IsTrueTo (observed_if W.Port.observed) result.history result.ports result.fault }
     ensures returned { AllReturned result.history result.fault }
     ensures installed { HasInstalled words.now environment.now
         (W.texts world.old) result.history result.fault }
     ensures ended { HasEnded (length result.ports) result.history }
     ensures read { IsReadOut result.history result.fault }
     ensures counted { IsCounted result.history (length result.ports) result.tallies result.fault }
-    ensures closed { AreClosed (told_if W.Port.told) result.ports }
+    ensures closed { AreClosed (observed_if W.Port.observed) result.ports }
     ensures numbers { AreNumbered 0 result.ports }
     ensures none_missing { NoneMissing words.now environment.now
         (W.texts world.old) result.history result.ports result.fault }
@@ -98,25 +98,25 @@ fn run<R: Wait, W: World, C: Clock>(
     world: &mut W,
     clock: &C,
 ) -> Outcome<Option<W::Port>>
-    ensures answer { (words : List Word) → IsRun words file.now →
+    ensures answer { (words : List ByteString) → IsRun words file.now →
         IsAnswer words environment.now (W.texts world.old) (W.faults world.old)
         (W.faults world.new) result.history result.fault }
-    ensures told { IsTrueTo (told_if W.Port.told) result.history result.ports result.fault }
+    ensures observed { IsTrueTo (observed_if W.Port.observed) result.history result.ports result.fault }
     ensures returned { AllReturned result.history result.fault }
-    ensures installed { (words : List Word) → IsRun words file.now → has_once words ≡ once →
+    ensures installed { (words : List ByteString) → IsRun words file.now → has_once words ≡ once →
         HasInstalled words environment.now (W.texts world.old) result.history result.fault }
     ensures ended { HasEnded (length result.ports) result.history }
     ensures read { IsReadOut result.history result.fault }
     ensures counted { IsCounted result.history (length result.ports) result.tallies result.fault }
-    ensures closed { AreClosed (told_if W.Port.told) result.ports }
+    ensures closed { AreClosed (observed_if W.Port.observed) result.ports }
     ensures numbers { AreNumbered 0 result.ports }
-    ensures none_missing { (words : List Word) → IsRun words file.now →
+    ensures none_missing { (words : List ByteString) → IsRun words file.now →
         NoneMissing words environment.now
         (W.texts world.old) result.history result.ports result.fault }
     ensures summary { result.summary ≡ summary_for stats result.history result.fault }
     ensures unprinted { result.fault ≢ Some Fault.PrintFailed }
     ensures moments { AreTimely (C.gave clock.now) result.history }
-    ensures called { (words : List Word) → IsRun words file.now → has_once words ≡ once →
+    ensures called { (words : List ByteString) → IsRun words file.now → has_once words ≡ once →
         HasCalled words environment.now (W.texts world.old) (W.calls world.old)
         (W.calls world.new) result.history result.fault }
     ensures texts { W.texts world.new ≡ W.texts world.old }
@@ -158,7 +158,7 @@ fn begin<R: Wait, P: Port, C: Clock>(
 ) -> Outcome<P>
     requires few { length parts.plan.components < 2 ^ 32 }
     requires ports { length parts.ports ≡ length parts.plan.components }
-    requires untouched { AreUntouched P.told
+    requires untouched { AreUntouched P.observed
         (port_of parts.once parts.plan.global.data_dir) parts.plan.components parts.ports }
     requires accepted { IsPlan parts.plan }
     requires served { all_served parts.plan.components ≡ true }
@@ -166,14 +166,14 @@ fn begin<R: Wait, P: Port, C: Clock>(
     requires keepers { AreSlots parts.plan.components parts.keepers }
     requires bare { AreBare parts.keepers }
     ensures judged { IsJudged result.history result.fault }
-    ensures told { IsTrueTo P.told result.history result.ports result.fault }
+    ensures observed { IsTrueTo P.observed result.history result.ports result.fault }
     ensures returned { AllReturned result.history result.fault }
     ensures installed { IsInForce parts.once parts.plan result.history result.fault }
     ensures ended { HasEnded (length result.ports) result.history }
     ensures read { IsReadOut result.history result.fault }
     ensures counted { IsCounted result.history (length result.ports) result.tallies result.fault }
     ensures summary { result.summary ≡ summary_for stats result.history result.fault }
-    ensures closed { AreClosed P.told result.ports }
+    ensures closed { AreClosed P.observed result.ports }
     ensures numbers { AreNumbered 0 result.ports }
     ensures none_missing { HasEach parts.plan result.history result.ports result.fault }
     ensures moments { AreTimely (C.gave clock.now) result.history }
@@ -195,20 +195,20 @@ fn finish<R: Wait, P: Port, C: Clock>(
     stats: bool,
     clock: &C,
 ) -> Outcome<P>
-    requires hub { IsHub P.told hub }
-    requires moment { C.gave clock.now hub.books.run.latest }
-    requires moments { AreTimely (C.gave clock.now) hub.books.log }
+    requires hub { IsHub P.observed hub }
+    requires moment { C.gave clock.now hub.engine.run.latest }
+    requires moments { AreTimely (C.gave clock.now) hub.engine.log }
     ensures judged { IsJudged result.history result.fault }
-    ensures told { IsTrueTo P.told result.history result.ports result.fault }
+    ensures observed { IsTrueTo P.observed result.history result.ports result.fault }
     ensures returned { AllReturned result.history result.fault }
-    ensures on { GoesOn hub.books.log result.history }
-    ensures same { IsSameRun hub.books.log result.history }
+    ensures on { GoesOn hub.engine.log result.history }
+    ensures same { IsSameRun hub.engine.log result.history }
     ensures moments { AreTimely (C.gave clock.now) result.history }
     ensures ended { HasEnded (length result.ports) result.history }
     ensures read { IsReadOut result.history result.fault }
     ensures counted { IsCounted result.history (length result.ports) result.tallies result.fault }
     ensures summary { result.summary ≡ summary_for stats result.history result.fault }
-    ensures closed { AreClosed P.told result.ports }
+    ensures closed { AreClosed P.observed result.ports }
     ensures numbers { AreNumbered 0 result.ports }
     ensures count { length result.ports ≡ length (started result.history) }
 {
@@ -241,10 +241,10 @@ struct Counted {
 /// What the instances counted, and what is to be printed of it where `stats` holds. Where memory was wanting, or none is found for that,
 /// nothing is counted, and that is the run's fault.
 fn count<P: Port>(alloc: Global, hub: &Hub<P>, stats: bool, fault: Option<Fault>) -> Counted
-    requires { IsHub P.told hub.now }
-    ensures counted { IsCounted hub.now.books.log
-        (length (started hub.now.books.log)) result.tallies result.fault }
-    ensures summary { result.summary ≡ summary_for stats hub.now.books.log result.fault }
+    requires { IsHub P.observed hub.now }
+    ensures counted { IsCounted hub.now.engine.log
+        (length (started hub.now.engine.log)) result.tallies result.fault }
+    ensures summary { result.summary ≡ summary_for stats hub.now.engine.log result.fault }
     ensures kept { (result.fault ≡ fault) ⊎ (result.fault ≡ Some Fault.WantOfMemory) }
 {
     if hub.starved() {
@@ -300,10 +300,10 @@ fn summary<P: Port>(
     hub: &Hub<P>,
     wanted: bool,
 ) -> Result<Option<Bytes>, WantOfMemory>
-    requires hub { IsHub P.told hub.now }
-    requires fed { hub.now.books.run.short ≡ false }
+    requires hub { IsHub P.observed hub.now }
+    requires fed { hub.now.engine.run.out_of_memory ≡ false }
     ensures { IfOk result
-        (λ text. text ≡ if wanted then Some (summary_of hub.now.books.log) else None) }
+        (λ text. text ≡ if wanted then Some (summary_of hub.now.engine.log) else None) }
 {
     if !wanted {
         return Ok(None);
@@ -319,10 +319,10 @@ fn summary<P: Port>(
 
 /// What each instance counted, in order.
 fn tallies<P: Port>(alloc: Global, hub: &Hub<P>) -> Result<TallyList, WantOfMemory>
-    requires hub { IsHub P.told hub.now }
-    requires fed { hub.now.books.run.short ≡ false }
+    requires hub { IsHub P.observed hub.now }
+    requires fed { hub.now.engine.run.out_of_memory ≡ false }
     ensures { IfOk result
-        (λ list. list ≡ tallies_of hub.now.books.log (length (started hub.now.books.log))) }
+        (λ list. list ≡ tallies_of hub.now.engine.log (length (started hub.now.engine.log))) }
 {
     let mut list = TallyList::new(alloc);
     for instance in 0..hub.instances() {

@@ -1,6 +1,6 @@
 ghost use Rattle.std.specs.Prelude.{◌≡◌, length};
 ghost use Rattle.vx_record.specs.Legal.{IsLegal, IsClosed};
-ghost use Rattle.vx_ends.specs.Silent.{told_if};
+ghost use Rattle.vx_ends.specs.Silent.{observed_if};
 ghost use Rattle.vx_hub.specs.Making.{AreServed};
 ghost use Rattle.vx_hub.specs.Remains.{AreNumbered, AreClosed, HasEnded, HasOnePlace, AllSpent, HasNotices, HasEnds};
 ghost use Rattle.vx_run.specs.Answers.{IsAnswer};
@@ -9,11 +9,11 @@ ghost use Rattle.vx_run.specs.Calling.{HasCalled};
 ghost use Rattle.vx_run.specs.Moments.{AreTimely};
 ghost use Rattle.vx_run.specs.Running.{IsTrueTo, AreThere, AllReturned, HasInstalled, IsReadOut, IsCounted, NoneMissing};
 ghost use Rattle.vx_run.specs.Showing.{IsShown, IsShownFirst, IsSummary};
-ghost use Rattle.vx_run.specs.Telling.{IsSaid};
+ghost use Rattle.vx_run.specs.Reporting.{IsSaid};
 
 use crate::ended::Ended;
+use crate::reporting::{report, status_of, sum_up};
 use crate::running::{Outcome, perform};
-use crate::telling::{status_of, sum_up, tell};
 use std::alloc::Global;
 use std::sync::Wait;
 use vx_ends::{Clock, Printer, World};
@@ -34,7 +34,7 @@ pub fn vector<R: Wait, W: World, C: Clock, P: Printer, L: Printer>(
     out: &mut P,
     err: &mut L,
 ) -> Ended<W>
-    ensures told { IsTrueTo (told_if W.Port.told) result.history result.ports result.fault }
+    ensures observed { IsTrueTo (observed_if W.Port.observed) result.history result.ports result.fault }
     ensures returned { AllReturned result.history result.fault }
     ensures installed { HasInstalled words.now environment.now
         (W.texts world) result.history result.fault }
@@ -48,7 +48,7 @@ pub fn vector<R: Wait, W: World, C: Clock, P: Printer, L: Printer>(
     ensures there { AreThere result.history result.ports }
     ensures complete { IsClosed result.history }
     ensures counted { IsCounted result.history (length result.ports) result.tallies result.fault }
-    ensures closed { AreClosed (told_if W.Port.told) result.ports }
+    ensures closed { AreClosed (observed_if W.Port.observed) result.ports }
     ensures numbers { AreNumbered 0 result.ports }
     ensures none_missing { NoneMissing words.now environment.now
         (W.texts world) result.history result.ports result.fault }
@@ -72,7 +72,7 @@ pub fn vector<R: Wait, W: World, C: Clock, P: Printer, L: Printer>(
         tallies,
         summary,
         ports,
-    } = perform_and_tell(rt, alloc, words, environment, &mut world, clock, out, err);
+    } = perform_and_report(rt, alloc, words, environment, &mut world, clock, out, err);
     let fault = sum_up(summary, fault, out);
     Ended {
         status: status_of(&fault),
@@ -85,7 +85,7 @@ pub fn vector<R: Wait, W: World, C: Clock, P: Printer, L: Printer>(
 }
 
 /// Does what the words ask for, and prints why that didn't end well.
-fn perform_and_tell<R: Wait, W: World, C: Clock, P: Printer, L: Printer>(
+fn perform_and_report<R: Wait, W: World, C: Clock, P: Printer, L: Printer>(
     rt: &R,
     alloc: Global,
     words: &TextList,
@@ -95,14 +95,14 @@ fn perform_and_tell<R: Wait, W: World, C: Clock, P: Printer, L: Printer>(
     out: &mut P,
     err: &mut L,
 ) -> Outcome<Option<W::Port>>
-    ensures told { IsTrueTo (told_if W.Port.told) result.history result.ports result.fault }
+    ensures observed { IsTrueTo (observed_if W.Port.observed) result.history result.ports result.fault }
     ensures returned { AllReturned result.history result.fault }
     ensures installed { HasInstalled words.now environment.now
         (W.texts world.old) result.history result.fault }
     ensures ended { HasEnded (length result.ports) result.history }
     ensures read { IsReadOut result.history result.fault }
     ensures counted { IsCounted result.history (length result.ports) result.tallies result.fault }
-    ensures closed { AreClosed (told_if W.Port.told) result.ports }
+    ensures closed { AreClosed (observed_if W.Port.observed) result.ports }
     ensures numbers { AreNumbered 0 result.ports }
     ensures none_missing { NoneMissing words.now environment.now
         (W.texts world.old) result.history result.ports result.fault }
@@ -120,7 +120,7 @@ fn perform_and_tell<R: Wait, W: World, C: Clock, P: Printer, L: Printer>(
 {
     let outcome = perform(rt, alloc, words, environment, world, clock, out);
     Outcome {
-        fault: tell(alloc, outcome.fault, err),
+        fault: report(alloc, outcome.fault, err),
         ..outcome
     }
 }

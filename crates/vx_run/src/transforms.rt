@@ -1,7 +1,7 @@
 // What the transforms of a plan work by.
 ghost use Rattle.std.specs.Prelude.{◌≡◌, ◌≤◌, [], ◌∷◌, length, map, true, Some, None, IfOk, IfSome, OnErr, vec_capacity};
 ghost use Rattle.std.specs.List.{list_all};
-ghost use Rattle.vx_value.specs.Texts.{Word};
+ghost use Rattle.vx_value.specs.Texts.{ByteString};
 ghost use Rattle.vx_hub.specs.Making.{IsPickerFor, ArePickers, IsSlotFor, AreSlots, AreBare};
 ghost use Rattle.vx_hub.specs.Standing.{merges as merges_by};
 ghost use Rattle.vx_pick.specs.declared.picker.Picker.TheVariants as Picker;
@@ -169,7 +169,7 @@ fn picker_of(
 
 /// The last of some conditions, if there is one.
 fn last_of(conditions: ConditionList) -> Option<Condition>
-    ensures some { (text : Word) → conditions ≡ text ∷ [] → result ≡ Some text }
+    ensures some { (text : ByteString) → conditions ≡ text ∷ [] → result ≡ Some text }
     ensures none { conditions ≡ [] → result ≡ None }
 {
     let mut conditions = conditions;
@@ -178,7 +178,7 @@ fn last_of(conditions: ConditionList) -> Option<Condition>
 
 /// The filter by the last of some conditions, if there is one.
 fn filter_of(conditions: ConditionList) -> Option<Picker>
-    ensures { (text : Word) → conditions ≡ text ∷ [] → result ≡ Some (Picker.Filter text) }
+    ensures { (text : ByteString) → conditions ≡ text ∷ [] → result ≡ Some (Picker.Filter text) }
 {
     match last_of(conditions) {
         Some(condition) => Some(Picker::Filter(Filter::new(condition))),

@@ -1,5 +1,5 @@
 ghost use Rattle.std.specs.Prelude.{◌≡◌, ◌≤◌, [], ◌∷◌, length, IfOk, string_bytes};
-ghost use Rattle.vx_ends.specs.Told.{Grows};
+ghost use Rattle.vx_ends.specs.Observation.{Grows};
 ghost use Rattle.vx_ends.specs.declared.call.Call.TheVariants as call;
 ghost use Rattle.vx_run.specs.Showing.{IsJudgedSo, count_of, same_class, valid_text};
 

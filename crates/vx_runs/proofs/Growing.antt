@@ -1,9 +1,9 @@
 -- What a port tells behind two gives.
 use Rattle.std.proofs.Common.{refl, ◌∙◌}
-use Rattle.vx_ends.specs.Told.{Told, SameBytes}
+use Rattle.vx_ends.specs.Observation.{Observation, SameBytes}
 
 -- the second leaves the rest as the first did
-pub same_on : (a b c : Told) → SameBytes (record a { given = b.given }) b → SameBytes (record b { given = c.given }) c → SameBytes (record a { given = c.given }) c
+pub same_on : (a b c : Observation) → SameBytes (record a { given = b.given }) b → SameBytes (record b { given = c.given }) c → SameBytes (record a { given = c.given }) c
 same_on a b c g h = record {
   taken = h.taken ∙ g.taken;
   left = h.left ∙ g.left;

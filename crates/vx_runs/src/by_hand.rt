@@ -1,7 +1,7 @@
-//! The engine driven by hand: three tasks are out at once, and come home in each order, with parcels moved between; and runs that are
+//! The engine driven by hand: three tasks are out at once, and come back in each order, with parcels moved between; and runs that are
 //! given up in the midst.
 ghost use Rattle.std.specs.Prelude.{◌≡◌, ◌<◌, ◌^◌, length, true, None, IfOk};
-ghost use Rattle.vx_ends.specs.Silent.{told_if};
+ghost use Rattle.vx_ends.specs.Silent.{observed_if};
 ghost use Rattle.vx_record.specs.Additions.{OnlyAdds};
 ghost use Rattle.vx_record.specs.Ceasing.{cause_of};
 ghost use Rattle.vx_record.specs.Makers.{IsBy, IsFor};
@@ -23,7 +23,7 @@ use vx_run::prepare;
 use vx_tasks::{Landing, Work};
 use vx_value::{Text, VariableList, WantOfMemory};
 
-/// In which order three tasks come home: the letters stand for those that were leased first, second and third.
+/// In which order three tasks come back: the letters stand for those that were leased first, second and third.
 #[derive(Clone, Copy, Debug)]
 enum Order {
     Abc,
@@ -36,11 +36,11 @@ enum Order {
 
 /// Hands out a task to a worker, that of the wanted instance.
 fn leased<R: Abort, P: Port>(rt: &R, hub: &mut Hub<P>, worker: u32, wanted: u32) -> Work<P>
-    requires { IsHub P.told hub.old }
-    ensures hub { IsHub P.told hub.new }
-    ensures away { IsAway P.told hub.new.books.log result }
+    requires { IsHub P.observed hub.old }
+    ensures hub { IsHub P.observed hub.new }
+    ensures away { IsAway P.observed hub.new.engine.log result }
     ensures worker { result.worker ≡ worker }
-    ensures only { OnlyAdds (IsBy worker) hub.old.books.log hub.new.books.log }
+    ensures only { OnlyAdds (IsBy worker) hub.old.engine.log hub.new.engine.log }
 {
     let work = hub.lease(worker, 0).expect(rt, "a task");
     assert_eq!(rt; work.instance, wanted);
@@ -49,59 +49,59 @@ fn leased<R: Abort, P: Port>(rt: &R, hub: &mut Hub<P>, worker: u32, wanted: u32)
 
 /// Does the work of a task that is out. The hub isn't asked: it is there for what is known of its record.
 fn done<P: Port, C: Clock>(alloc: Global, _hub: &Hub<P>, work: Work<P>, clock: &C) -> Landing<P>
-    requires hub { IsHub P.told _hub.now }
-    requires away { IsAway P.told _hub.now.books.log work }
-    ensures back { IsBack P.told _hub.now.books.log result }
+    requires hub { IsHub P.observed _hub.now }
+    requires away { IsAway P.observed _hub.now.engine.log work }
+    ensures back { IsBack P.observed _hub.now.engine.log result }
     ensures instance { result.instance ≡ work.instance }
     ensures worker { result.worker ≡ work.worker }
 {
     work.work(alloc, clock)
 }
 
-/// Brings a task home.
+/// Brings a task back.
 fn land<R: Abort, P: Port>(rt: &R, hub: &mut Hub<P>, landing: Landing<P>)
-    requires hub { IsHub P.told hub.old }
-    requires back { IsBack P.told hub.old.books.log landing }
-    ensures hub { IsHub P.told hub.new }
-    ensures only { OnlyAdds (IsFor landing.instance) hub.old.books.log hub.new.books.log }
+    requires hub { IsHub P.observed hub.old }
+    requires back { IsBack P.observed hub.old.engine.log landing }
+    ensures hub { IsHub P.observed hub.new }
+    ensures only { OnlyAdds (IsFor landing.instance) hub.old.engine.log hub.new.engine.log }
 {
     hub.land(landing).expect(rt, "a landing");
 }
 
-/// Moves the parcels of an instance on, if it is at home.
+/// Moves the parcels of an instance on, if it is unleased.
 fn push<R: Abort, P: Port>(rt: &R, hub: &mut Hub<P>, instance: u32)
-    requires hub { IsHub P.told hub.old }
-    requires within { instance < length (started hub.old.books.log) }
-    ensures hub { IsHub P.told hub.new }
-    ensures size { length (started hub.new.books.log) ≡ length (started hub.old.books.log) }
-    ensures spares { SparesEach hub.old.books.log hub.new.books.log }
+    requires hub { IsHub P.observed hub.old }
+    requires within { instance < length (started hub.old.engine.log) }
+    ensures hub { IsHub P.observed hub.new }
+    ensures size { length (started hub.new.engine.log) ≡ length (started hub.old.engine.log) }
+    ensures spares { SparesEach hub.old.engine.log hub.new.engine.log }
 {
     hub.push_pending(instance).expect(rt, "a push");
 }
 
-/// Moves the parcels of every instance on that is at home.
+/// Moves the parcels of every instance on that is unleased.
 fn push_all<R: Abort, P: Port>(rt: &R, hub: &mut Hub<P>)
-    requires { IsHub P.told hub.old }
-    ensures hub { IsHub P.told hub.new }
-    ensures spares { SparesEach hub.old.books.log hub.new.books.log }
+    requires { IsHub P.observed hub.old }
+    ensures hub { IsHub P.observed hub.new }
+    ensures spares { SparesEach hub.old.engine.log hub.new.engine.log }
 {
     for instance in 0..hub.instances() {
         push(rt, hub, instance);
     }
 }
 
-/// Brings a task home, and moves on what can move.
+/// Brings a task back, and moves on what can move.
 fn land_and_push<R: Abort, P: Port>(rt: &R, hub: &mut Hub<P>, landing: Landing<P>)
-    requires hub { IsHub P.told hub.old }
-    requires back { IsBack P.told hub.old.books.log landing }
-    ensures hub { IsHub P.told hub.new }
-    ensures spares { SparesOthers landing.instance hub.old.books.log hub.new.books.log }
+    requires hub { IsHub P.observed hub.old }
+    requires back { IsBack P.observed hub.old.engine.log landing }
+    ensures hub { IsHub P.observed hub.new }
+    ensures spares { SparesOthers landing.instance hub.old.engine.log hub.new.engine.log }
 {
     land(rt, hub, landing);
     push_all(rt, hub);
 }
 
-/// Brings three tasks home, one by one, and moves on what can move behind each.
+/// Brings three tasks back, one by one, and moves on what can move behind each.
 fn land_three<R: Abort, P: Port>(
     rt: &R,
     hub: &mut Hub<P>,
@@ -109,9 +109,9 @@ fn land_three<R: Abort, P: Port>(
     b: Landing<P>,
     c: Landing<P>,
 )
-    requires hub { IsHub P.told hub.old }
-    requires back { AreBack P.told hub.old.books.log a b c }
-    ensures { IsHub P.told hub.new }
+    requires hub { IsHub P.observed hub.old }
+    requires back { AreBack P.observed hub.old.engine.log a b c }
+    ensures { IsHub P.observed hub.new }
 {
     land_and_push(rt, hub, a);
     land_and_push(rt, hub, b);
@@ -127,9 +127,9 @@ fn land_in<R: Abort, P: Port>(
     b: Landing<P>,
     c: Landing<P>,
 )
-    requires hub { IsHub P.told hub.old }
-    requires back { AreBack P.told hub.old.books.log a b c }
-    ensures { IsHub P.told hub.new }
+    requires hub { IsHub P.observed hub.old }
+    requires back { AreBack P.observed hub.old.engine.log a b c }
+    ensures { IsHub P.observed hub.new }
 {
     match order {
         Order::Abc => land_three(rt, hub, a, b, c),
@@ -141,7 +141,7 @@ fn land_in<R: Abort, P: Port>(
     }
 }
 
-/// Leases the two sinks and the source to three workers, does the work of each, the last one first, and brings them home in an
+/// Leases the two sinks and the source to three workers, does the work of each, the last one first, and brings them back in an
 /// order.
 fn three_out<R: Abort, P: Port, C: Clock>(
     rt: &R,
@@ -150,8 +150,8 @@ fn three_out<R: Abort, P: Port, C: Clock>(
     clock: &C,
     order: Order,
 )
-    requires { IsHub P.told hub.old }
-    ensures { IsHub P.told hub.new }
+    requires { IsHub P.observed hub.old }
+    ensures { IsHub P.observed hub.new }
 {
     let a = leased(rt, hub, 0, 1);
     let b = leased(rt, hub, 1, 2);
@@ -164,18 +164,18 @@ fn three_out<R: Abort, P: Port, C: Clock>(
 
 /// Gives the run up, as one does that finds no memory.
 fn give_up<P: Port>(hub: &mut Hub<P>)
-    requires hub { IsHub P.told hub.old }
-    requires going { cause_of hub.old.books.log ≡ None }
-    ensures hub { IsHub P.told hub.new }
-    ensures spares { SparesEach hub.old.books.log hub.new.books.log }
+    requires hub { IsHub P.observed hub.old }
+    requires going { cause_of hub.old.engine.log ≡ None }
+    ensures hub { IsHub P.observed hub.new }
+    ensures spares { SparesEach hub.old.engine.log hub.new.engine.log }
 {
     hub.abandon(AbandonCause::WantOfMemory);
 }
 
-/// Leases the two sinks to two workers, gives the run up, and only then does the work of each and brings it home.
+/// Leases the two sinks to two workers, gives the run up, and only then does the work of each and brings it back.
 fn two_given_up<R: Abort, P: Port, C: Clock>(rt: &R, alloc: Global, hub: &mut Hub<P>, clock: &C)
-    requires { IsHub P.told hub.old }
-    ensures { IsHub P.told hub.new }
+    requires { IsHub P.observed hub.old }
+    ensures { IsHub P.observed hub.new }
 {
     let a = leased(rt, hub, 0, 1);
     let b = leased(rt, hub, 1, 2);
@@ -187,7 +187,7 @@ fn two_given_up<R: Abort, P: Port, C: Clock>(rt: &R, alloc: Global, hub: &mut Hu
     land(rt, hub, a);
 }
 
-/// Leases the wanted instance, does its work, and brings it home, with nothing else out.
+/// Leases the wanted instance, does its work, and brings it back, with nothing else out.
 fn one_out<R: Abort, P: Port, C: Clock>(
     rt: &R,
     alloc: Global,
@@ -195,8 +195,8 @@ fn one_out<R: Abort, P: Port, C: Clock>(
     clock: &C,
     wanted: u32,
 )
-    requires { IsHub P.told hub.old }
-    ensures { IsHub P.told hub.new }
+    requires { IsHub P.observed hub.old }
+    ensures { IsHub P.observed hub.new }
 {
     let work = leased(rt, hub, 0, wanted);
     let landing = done(alloc, hub, work, clock);
@@ -205,8 +205,8 @@ fn one_out<R: Abort, P: Port, C: Clock>(
 
 /// One turn with one worker: ends an instance, or moves parcels, or does an instance's work.
 fn turn<R: Abort, P: Port, C: Clock>(rt: &R, alloc: Global, hub: &mut Hub<P>, clock: &C)
-    requires { IsHub P.told hub.old }
-    ensures { IsHub P.told hub.new }
+    requires { IsHub P.observed hub.old }
+    ensures { IsHub P.observed hub.new }
 {
     if let Some(_ended) = hub.retire() {
         return;
@@ -223,9 +223,9 @@ const TURNS: u32 = 100;
 
 /// Turns a hub until each instance ended.
 fn drive<R: Abort, P: Port, C: Clock>(rt: &R, alloc: Global, hub: &mut Hub<P>, clock: &C)
-    requires { IsHub P.told hub.old }
-    ensures hub { IsHub P.told hub.new }
-    ensures over { IsOver hub.new.books.log }
+    requires { IsHub P.observed hub.old }
+    ensures hub { IsHub P.observed hub.new }
+    ensures over { IsOver hub.new.engine.log }
 {
     for _ in 0..TURNS {
         turn(rt, alloc, hub, clock);
@@ -276,7 +276,7 @@ const FOUR_WRITTEN: Tally = Tally {
 
 /// Checks what an instance counted.
 fn counted<R: Abort, P: Port>(rt: &R, hub: &Hub<P>, instance: u32, wanted: &Tally)
-    requires { IsHub P.told hub.now }
+    requires { IsHub P.observed hub.now }
 {
     assert!(rt; instance < hub.instances());
     assert!(rt; hub.tally(instance) == *wanted);
@@ -290,7 +290,7 @@ fn by_hand<R: Abort, P: Port, C: Clock>(
     clock: &C,
     order: Order,
 ) -> NumberedList<P>
-    requires { IsHub P.told hub }
+    requires { IsHub P.observed hub }
 {
     let mut hub = hub;
     one_out(rt, alloc, &mut hub, clock, 0);
@@ -310,7 +310,7 @@ fn given_up<R: Abort, P: Port, C: Clock>(
     hub: Hub<P>,
     clock: &C,
 ) -> NumberedList<P>
-    requires { IsHub P.told hub }
+    requires { IsHub P.observed hub }
 {
     let mut hub = hub;
     assert!(rt; 0 < hub.instances());
@@ -326,7 +326,7 @@ fn given_up<R: Abort, P: Port, C: Clock>(
 
 /// The hub of the configuration of a world, between its ports.
 fn hub_of<W: World>(alloc: Global, world: &mut W) -> Result<Hub<Option<W::Port>>, WantOfMemory>
-    ensures { IfOk result (IsHub (told_if W.Port.told)) }
+    ensures { IfOk result (IsHub (observed_if W.Port.observed)) }
 {
     let file = Text::copy_of(alloc, "first.toml")?;
     let Ok(parts) = prepare(alloc, &file, false, &VariableList::new(alloc), world) else {
@@ -372,8 +372,8 @@ fn was_given(
     }
 }
 
-/// Drives a run in which three tasks come home in an order, and checks what its sinks were given.
-fn comes_home<R: Abort>(rt: &R, alloc: Global, order: Order) -> Result<(), Fail> {
+/// Drives a run in which three tasks come back in an order, and checks what its sinks were given.
+fn lands_in_order<R: Abort>(rt: &R, alloc: Global, order: Order) -> Result<(), Fail> {
     let mut world = world(alloc, TWO_SINKS, TWICE_TWO)?;
     let hub = hub_of(alloc, &mut world)?;
     let ports = by_hand(rt, alloc, hub, &MemoryClock::new(), order);
@@ -384,20 +384,20 @@ fn comes_home<R: Abort>(rt: &R, alloc: Global, order: Order) -> Result<(), Fail>
 
 #[test]
 fn sinks_before_the_source(rt: HostRuntime) -> Result<(), Fail> {
-    comes_home(&rt, rt.alloc(), Order::Abc)?;
-    comes_home(&rt, rt.alloc(), Order::Bac)
+    lands_in_order(&rt, rt.alloc(), Order::Abc)?;
+    lands_in_order(&rt, rt.alloc(), Order::Bac)
 }
 
 #[test]
 fn the_source_between_the_sinks(rt: HostRuntime) -> Result<(), Fail> {
-    comes_home(&rt, rt.alloc(), Order::Acb)?;
-    comes_home(&rt, rt.alloc(), Order::Bca)
+    lands_in_order(&rt, rt.alloc(), Order::Acb)?;
+    lands_in_order(&rt, rt.alloc(), Order::Bca)
 }
 
 #[test]
 fn the_source_before_the_sinks(rt: HostRuntime) -> Result<(), Fail> {
-    comes_home(&rt, rt.alloc(), Order::Cab)?;
-    comes_home(&rt, rt.alloc(), Order::Cba)
+    lands_in_order(&rt, rt.alloc(), Order::Cab)?;
+    lands_in_order(&rt, rt.alloc(), Order::Cba)
 }
 
 #[test]
@@ -428,7 +428,7 @@ fn overflowing<R: Abort, P: Port, C: Clock>(
     hub: Hub<P>,
     clock: &C,
 ) -> NumberedList<P>
-    requires { IsHub P.told hub }
+    requires { IsHub P.observed hub }
 {
     let mut hub = hub;
     one_out(rt, alloc, &mut hub, clock, 0);
@@ -470,8 +470,8 @@ const TWO_TAKEN: Tally = Tally {
 
 /// Has the instance that merges do what there is to do.
 fn merge_once<R: Abort, P: Port>(rt: &R, hub: &mut Hub<P>)
-    requires { IsHub P.told hub.old }
-    ensures { IsHub P.told hub.new }
+    requires { IsHub P.observed hub.old }
+    ensures { IsHub P.observed hub.new }
 {
     let did = hub.merge(0, 0).expect(rt, "a merge");
     assert!(rt; did);
@@ -484,7 +484,7 @@ fn group_given_up<R: Abort, P: Port, C: Clock>(
     hub: Hub<P>,
     clock: &C,
 ) -> NumberedList<P>
-    requires { IsHub P.told hub }
+    requires { IsHub P.observed hub }
 {
     let mut hub = hub;
     one_out(rt, alloc, &mut hub, clock, 0);

@@ -234,7 +234,7 @@ fn world(alloc: Global) -> Result<MemoryWorld, WantOfMemory> {
 }
 
 /// Checks the text that a world has at a path, if any.
-fn tells(rt: &impl Abort, world: &mut MemoryWorld, path: &str, want: Option<&str>) {
+fn has_text(rt: &impl Abort, world: &mut MemoryWorld, path: &str, want: Option<&str>) {
     match world.config(path) {
         Ok(text) => assert!(rt; text.as_slice() == want.unwrap_or("no text").as_bytes()),
         Err(_) => assert!(rt; want.is_none()),
@@ -248,7 +248,7 @@ const TEXTS: &[(&str, Option<&str>)] = &[("b", Some("two")), ("a", Some("one")),
 fn gives_texts(rt: HostRuntime) -> Result<(), Fail> {
     let mut world = world(rt.alloc())?;
     for (path, want) in TEXTS {
-        tells(&rt, &mut world, *path, *want);
+        has_text(&rt, &mut world, *path, *want);
     }
     Ok(())
 }

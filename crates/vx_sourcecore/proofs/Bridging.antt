@@ -1,7 +1,7 @@
 -- The record's lines are those of a framer.
 use Rattle.std.proofs.Common.{◌≡◌, ℕ, ◌+◌, ◌≤◌, Bool, true, false, List, [], ◌∷◌, ◌++◌, ◌&&◌, length, map, arith, Option, Some, None, refl, sym, subst, ◌∙◌, ap}
 use Rattle.std.specs.Prelude.{filter, IsSomeAnd, flat_map, if◌then◌else◌}
-use Rattle.vx_value.specs.Texts.{Word}
+use Rattle.vx_value.specs.Texts.{ByteString}
 use Rattle.vx_frame.specs.Frames.{Frame, cut, capped, some_byte, lines_from, fits, frames, discarded, open_line, open_from}
 use Rattle.vx_frame.specs.Framings.{line_of}
 use Rattle.vx_value.specs.declared.event.Event.{Event}
@@ -18,13 +18,13 @@ use Rattle.vx_record.specs.LineBytes.{lines_after, overlong_after}
 use Rattle.vx_record.specs.Reads.{stream_of, open_bytes, lines_past, new_lines, limit_of, line_events, decoded, events_of_lines, events_of, last_end as record_end}
 use Rattle.vx_sourcecore.specs.declared.source.Cut.{Cut}
 use Rattle.vx_sourcecore.specs.declared.source.SourceCore.{SourceCore}
-use Rattle.vx_sourcecore.specs.NewLines.{codec_of, AreFramed, AreTold, AreNew}
+use Rattle.vx_sourcecore.specs.NewLines.{codec_of, AreFramed, AreObserved, AreNew}
 use Rattle.vx_sourcecore.specs.Sources.{events_of_cut, last_end, frame_of, IsOf}
 use Rattle.vx_sourcecore.specs.Abreast.{IsMadeFor}
-use Rattle.vx_sourcecore.proofs.Framed.{framed_lines, told_new}
+use Rattle.vx_sourcecore.proofs.Framed.{framed_lines, observed_new}
 
 -- the lines that some bytes, or the end, add, and how many more are too long
-pub record Adds (limit : ℕ) (before : Word) (took : Taken) (behind : List Frame) (over : ℕ) : Type 0 where
+pub record Adds (limit : ℕ) (before : ByteString) (took : Taken) (behind : List Frame) (over : ℕ) : Type 0 where
   pub lines : lines_after limit before took ≡ frames before limit false ++ behind
   pub more : overlong_after limit before took ≡ discarded before limit false + over
 
@@ -50,7 +50,7 @@ lines_fit limit ended at part (next ∷ more) =
     let end = at + length part + 1 in
     first_fits limit (record { bytes = part; end = capped end }) (lines_from end ended next more) (omega arith) (lines_fit limit ended end next more)
 
-past_fits : (limit : ℕ) (before : Word) (took : Taken) → end_fits (lines_past limit before took)
+past_fits : (limit : ℕ) (before : ByteString) (took : Taken) → end_fits (lines_past limit before took)
 past_fits limit before (Bytes bytes) = lines_fit limit false (open_from before) (cut (open_line before ++ bytes)).first (cut (open_line before ++ bytes)).more
 past_fits limit before StreamEnded = lines_fit limit true (open_from before) (cut (open_line before)).first (cut (open_line before)).more
 past_fits limit before AllEnded = lines_fit limit true (open_from before) (cut (open_line before)).first (cut (open_line before)).more
@@ -77,9 +77,9 @@ framed_again stream [] = refl
 framed_again stream (line ∷ lines) = ap (λ (fs : List Frame). line ∷ fs) (framed_again stream lines)
 
 -- what a record says of the component that there is
-told_some : {X : Type 0} (o : Option Component) (P : Component → Type 0) (none x : X) (f : Component → X) → IsSomeAnd o P → ((c : Component) → P c → x ≡ f c) → x ≡ elim o [ None ↦ none | Some c ↦ f c ]
-told_some None P none x f some is = absurd some
-told_some (Some c) P none x f some is = is c some
+observed_some : {X : Type 0} (o : Option Component) (P : Component → Type 0) (none x : X) (f : Component → X) → IsSomeAnd o P → ((c : Component) → P c → x ≡ f c) → x ≡ elim o [ None ↦ none | Some c ↦ f c ]
+observed_some None P none x f some is = absurd some
+observed_some (Some c) P none x f some is = is c some
 
 -- what was cut is what the record's Read gives, with the end in its stream's bytes since their last end
 pub record IsGiven (h : Record) (i stream : ℕ) (took : Taken) (brought : Cut) : Type 0 where
@@ -93,15 +93,15 @@ pub given_by : (h : Record) (i stream : ℕ) (took : Taken) (core : SourceCore) 
     IsGiven h i stream took brought
 given_by h i stream took core behind over brought made adds are = record {
   events =
-      told_some (component_of h i) (λ c. IsMadeFor c.settings core) [] brought.events (λ c. events_of_lines c.settings lines) made
-      (λ c m. are.each ∙ ap (λ (w : Word). flat_map (events_of_cut core.decoding w core.file) (map (line_of s) behind)) m.source_type
-      ∙ ap (λ (o : Option Word). flat_map (events_of_cut core.decoding (type_name c.settings) o) (map (line_of s) behind)) m.file
+      observed_some (component_of h i) (λ c. IsMadeFor c.settings core) [] brought.events (λ c. events_of_lines c.settings lines) made
+      (λ c m. are.each ∙ ap (λ (w : ByteString). flat_map (events_of_cut core.decoding w core.file) (map (line_of s) behind)) m.source_type
+      ∙ ap (λ (o : Option ByteString). flat_map (events_of_cut core.decoding (type_name c.settings) o) (map (line_of s) behind)) m.file
       ∙ ap (λ (fs : List Frame). flat_map (events_of_cut core.decoding (type_name c.settings) (file_read c.settings)) (map (line_of s) fs)) (sym same)
       ∙ sym (events_by core.decoding c.settings s lines) ∙ sym (decoded_by core.decoding c.settings lines m.decoding_is));
   end =
       are.last ∙ ap (λ (fs : List Frame). last_end (map (line_of s) fs)) (sym same) ∙ sym (end_by s lines)
       ∙ sym (still (record_end lines) (past_fits (limit_of h i) (open_bytes h i s) took));
-  new = told_new h i stream took behind over core.decoding brought.new framed codec (subst (λ (fs : List Frame). AreTold core.decoding fs over brought.new) (framed_again s behind) are.new);
+  new = observed_new h i stream took behind over core.decoding brought.new framed codec (subst (λ (fs : List Frame). AreObserved core.decoding fs over brought.new) (framed_again s behind) are.new);
 }
   where
     s : ℕ
@@ -111,10 +111,10 @@ given_by h i stream took core behind over brought made adds are = record {
     lines = new_lines h i stream took
 
     limit : core.framer.limit ≡ limit_of h i
-    limit = told_some (component_of h i) (λ c. IsMadeFor c.settings core) 0 core.framer.limit (λ c. longest_line c.settings) made (λ c m. m.limit)
+    limit = observed_some (component_of h i) (λ c. IsMadeFor c.settings core) 0 core.framer.limit (λ c. longest_line c.settings) made (λ c m. m.limit)
 
     codec : codec_of h i ≡ Some core.decoding
-    codec = sym (told_some (component_of h i) (λ c. IsMadeFor c.settings core) None (Some core.decoding) (λ c. decoding c.settings) made (λ c m. sym m.decoding_is))
+    codec = sym (observed_some (component_of h i) (λ c. IsMadeFor c.settings core) None (Some core.decoding) (λ c. decoding c.settings) made (λ c m. sym m.decoding_is))
 
     added : Adds (limit_of h i) (open_bytes h i s) took behind over
     added = subst (λ n. Adds n (open_bytes h i s) took behind over) limit adds

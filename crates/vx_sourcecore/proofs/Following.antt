@@ -5,7 +5,7 @@ use Rattle.std.proofs.lemmas.Bool.Decides.{nat_tests}
 use Rattle.std.proofs.lemmas.Bool.{and_from as both_true, and_right as second_false, cases_eq, eq-eqb as equal_test, eqb-true as test_equal, or_parts as either_false}
 use Rattle.std.proofs.lemmas.List.{append-nil}
 use Rattle.std.proofs.lemmas.List.Elements.{Contains-append_left, Contains-append_right, Contains-append_cases, Contains-push}
-use Rattle.vx_value.specs.Texts.{Word, is_empty}
+use Rattle.vx_value.specs.Texts.{ByteString, is_empty}
 use Rattle.vx_value.specs.declared.want_of_memory.WantOfMemory.{WantOfMemory}
 use Rattle.vx_frame.specs.Frames.{Frame, frames, discarded}
 use Rattle.vx_frame.specs.Framings.{Framing, HasTaken, untouched, left_behind, line_of}
@@ -82,7 +82,7 @@ open_whole (Read j s (taken.Bytes bytes) ∷ h) i stream over unended =
     go ((j == i) && (s == stream)) (open_whole h i stream (either_false ((j == i) && is_end (taken.Bytes bytes)) (all_ended h i) over).1 (λ c. unended (Contains-append_left (ended_streams h i) [] stream c)))
   where
     go : (b : Bool) → open_bytes h i stream ≡ taken h i stream → (if b then open_bytes h i stream ++ bytes else open_bytes h i stream) ≡ taken h i stream ++ (if b then bytes else [])
-    go true e = ap (λ (w : Word). w ++ bytes) e
+    go true e = ap (λ (w : ByteString). w ++ bytes) e
     go false e = e ∙ sym (append-nil (taken h i stream))
 open_whole (Read j s taken.StreamEnded ∷ h) i stream over unended =
     go (j == i) (s == stream) refl refl (open_whole h i stream (either_false ((j == i) && is_end taken.StreamEnded) (all_ended h i) over).1 (λ c. unended (Contains-append_left (ended_streams h i) (if j == i then s ∷ [] else []) stream c)))
@@ -107,15 +107,15 @@ made_on None old stream new rest m = m
 made_on (Some c) old stream new rest m = record { limit = rest.limit ∙ m.limit; source_type = rest.source_type ∙ m.source_type; file = rest.file ∙ m.file; decoding_is = m.decoding_is ∙ ap Some (sym rest.decoding) }
 
 -- what was left of another stream is left of it
-others_taken : (old : SourceCore) (stream : ℕ) (new : SourceCore) (s : ℕ) (bytes : Word) → KeepsOthers old stream new → s ≢ stream → HasTaken old.framer s bytes → HasTaken new.framer s bytes
+others_taken : (old : SourceCore) (stream : ℕ) (new : SourceCore) (s : ℕ) (bytes : ByteString) → KeepsOthers old stream new → s ≢ stream → HasTaken old.framer s bytes → HasTaken new.framer s bytes
 others_taken old stream new s bytes rest other was = rest.others s other ∙ was ∙ ap (λ n. left_behind n untouched bytes) (sym rest.limit)
 
-some_bytes : (bytes : Word) → 0 < length bytes → not (is_empty bytes) ≡ true
+some_bytes : (bytes : ByteString) → 0 < length bytes → not (is_empty bytes) ≡ true
 some_bytes [] l = absurd (omega arith)
 some_bytes (b ∷ bytes) l = refl
 
 -- a source that took bytes
-fed_abreast : (h : Record) (i stream : ℕ) (bytes : Word) (brought : Cut) (old new : SourceCore) → 0 < length bytes → (Contains (ended_streams h i) stream → ⊥) → IsAbreast h i old → HasFed old stream bytes brought new →
+fed_abreast : (h : Record) (i stream : ℕ) (bytes : ByteString) (brought : Cut) (old new : SourceCore) → 0 < length bytes → (Contains (ended_streams h i) stream → ⊥) → IsAbreast h i old → HasFed old stream bytes brought new →
     IsAbreast (Read i stream (taken.Bytes bytes) ∷ h) i new
 fed_abreast h i stream bytes brought old new some unended a fed = record {
   made_for = made_on (component_of h i) old stream new fed.rest a.made_for;
@@ -125,9 +125,9 @@ fed_abreast h i stream bytes brought old new some unended a fed = record {
 }
   where
     taken_at : (s : ℕ) → (stream ≡ s) ⊎ (stream ≢ s) → HasTaken new.framer s (open_bytes (Read i stream (taken.Bytes bytes) ∷ h) i s)
-    taken_at s (inl same) = subst (λ (w : Word). HasTaken new.framer s w) (sym (open_same h i stream (taken.Bytes bytes) s same))
+    taken_at s (inl same) = subst (λ (w : ByteString). HasTaken new.framer s w) (sym (open_same h i stream (taken.Bytes bytes) s same))
         (subst (λ z. HasTaken new.framer z (open_bytes h i z ++ bytes)) same (fed.taken (open_bytes h i stream) (a.taken stream)))
-    taken_at s (inr other) = subst (λ (w : Word). HasTaken new.framer s w) (sym (open_other h i stream (taken.Bytes bytes) s other))
+    taken_at s (inr other) = subst (λ (w : ByteString). HasTaken new.framer s w) (sym (open_other h i stream (taken.Bytes bytes) s other))
         (others_taken old stream new s (open_bytes h i s) fed.rest (λ e. other (sym e)) (a.taken s))
 
     ended_at : (s : ℕ) → (stream ≡ s) ⊎ (stream ≢ s) → Contains (ended_streams h i) s ⊎ Contains [] s → open_bytes (Read i stream (taken.Bytes bytes) ∷ h) i s ≡ []
@@ -147,7 +147,7 @@ Ends (taken.Bytes bytes) = ⊥
 Ends taken.StreamEnded = Unit {0}
 Ends taken.AllEnded = Unit {0}
 
-ends_open : (took : Taken) (w : Word) → Ends took → still_open took w ≡ []
+ends_open : (took : Taken) (w : ByteString) → Ends took → still_open took w ≡ []
 ends_open (taken.Bytes bytes) w e = absurd e
 ends_open taken.StreamEnded w e = refl
 ends_open taken.AllEnded w e = refl
@@ -174,8 +174,8 @@ finished_abreast h i stream took at brought old new ends is a finished = record 
     apart s other = open_other h i stream took s (λ e. other (sym is ∙ e))
 
     taken_at : (s : ℕ) → (at ≡ s) ⊎ (at ≢ s) → HasTaken new.framer s (open_bytes (Read i stream took ∷ h) i s)
-    taken_at s (inl same) = subst (λ (w : Word). HasTaken new.framer s w) (sym (shut s same)) (subst (λ z. HasTaken new.framer z []) same finished.anew)
-    taken_at s (inr other) = subst (λ (w : Word). HasTaken new.framer s w) (sym (apart s other))
+    taken_at s (inl same) = subst (λ (w : ByteString). HasTaken new.framer s w) (sym (shut s same)) (subst (λ z. HasTaken new.framer z []) same finished.anew)
+    taken_at s (inr other) = subst (λ (w : ByteString). HasTaken new.framer s w) (sym (apart s other))
         (others_taken old at new s (open_bytes h i s) finished.rest (λ e. other (sym e)) (a.taken s))
 
     ended_at : (s : ℕ) → (at ≡ s) ⊎ (at ≢ s) → Contains (ended_streams h i) s ⊎ Contains (ended_by i (Read i stream took)) s → open_bytes (Read i stream took ∷ h) i s ≡ []
@@ -194,12 +194,12 @@ end_open h i stream took brought whole given =
     given.end
     ∙ ap capped (all_open (length (open_bytes h i (stream_of h i stream took))) (length (taken h i (stream_of h i stream took))) (last_end (new_lines h i stream took)) (ap length whole))
 
-fed_given : (h : Record) (i stream : ℕ) (bytes : Word) (brought : Cut) (old new : SourceCore) → IsAbreast h i old → HasFed old stream bytes brought new → IsGiven h i stream (taken.Bytes bytes) brought
+fed_given : (h : Record) (i stream : ℕ) (bytes : ByteString) (brought : Cut) (old new : SourceCore) → IsAbreast h i old → HasFed old stream bytes brought new → IsGiven h i stream (taken.Bytes bytes) brought
 fed_given h i stream bytes brought old new a fed =
     given_by h i stream (taken.Bytes bytes) old (cut_lines old.framer stream false bytes) (cut_overlong old.framer stream false bytes) brought a.made_for
     (record { lines = fed.behind (open_bytes h i stream) (a.taken stream); more = fed.discards (open_bytes h i stream) (a.taken stream) }) fed.gave
 
-fed_cut : (h : Record) (i stream : ℕ) (bytes : Word) (brought : Cut) (old new : SourceCore) → all_ended h i ≡ false → (Contains (ended_streams h i) stream → ⊥) → IsAbreast h i old → HasFed old stream bytes brought new →
+fed_cut : (h : Record) (i stream : ℕ) (bytes : ByteString) (brought : Cut) (old new : SourceCore) → all_ended h i ≡ false → (Contains (ended_streams h i) stream → ⊥) → IsAbreast h i old → HasFed old stream bytes brought new →
     IsCutOf h i stream (taken.Bytes bytes) brought
 fed_cut h i stream bytes brought old new over unended a fed =
     let given = fed_given h i stream bytes brought old new a fed in
@@ -211,7 +211,7 @@ fed_cut h i stream bytes brought old new over unended a fed =
     }
 
 -- what an end adds
-end_adds : (limit : ℕ) (w : Word) (took : Taken) (behind : List Frame) (over : ℕ) → Ends took → frames w limit true ≡ frames w limit false ++ behind → discarded w limit true ≡ discarded w limit false + over →
+end_adds : (limit : ℕ) (w : ByteString) (took : Taken) (behind : List Frame) (over : ℕ) → Ends took → frames w limit true ≡ frames w limit false ++ behind → discarded w limit true ≡ discarded w limit false + over →
     Adds limit w took behind over
 end_adds limit w (taken.Bytes bytes) behind over ends lines more = absurd ends
 end_adds limit w taken.StreamEnded behind over ends lines more = record { lines = lines; more = more }
@@ -252,7 +252,7 @@ finished_cut h i stream took at brought old new ends over of is a finished = rec
     given = finished_given h i stream took at brought old new ends is a finished
 
     by_open : Contains (ended_streams h i) at ⊎ (Contains (ended_streams h i) at → ⊥) → 0 < length brought.events → brought.end ≡ capped (end_of h i stream took)
-    by_open (inl there) some = absurd (nothing_gave old at brought new (subst (λ (w : Word). HasTaken old.framer at w) (a.ended at there) (a.taken at)) finished some)
+    by_open (inl there) some = absurd (nothing_gave old at brought new (subst (λ (w : ByteString). HasTaken old.framer at w) (a.ended at there) (a.taken at)) finished some)
     by_open (inr unended) some = end_open h i stream took brought (subst (λ z. open_bytes h i z ≡ taken h i z) (sym is) (open_whole h i at over unended)) given
 
 -- TURNS
@@ -268,7 +268,7 @@ same_abreast h i old new same a = record {
     made_same None m = m
     made_same (Some c) m = record { limit = ap (λ (f : Framing). f.limit) same.framer ∙ m.limit; source_type = same.source_type ∙ m.source_type; file = same.file ∙ m.file; decoding_is = m.decoding_is ∙ ap Some (sym same.decoding) }
 
-pub fed_turned : (h : Record) (i stream : ℕ) (bytes : Word) (cut : Option Cut) (old new : SourceCore) → all_ended h i ≡ false → 0 < length bytes → (Contains (ended_streams h i) stream → ⊥) → IsAbreast h i old →
+pub fed_turned : (h : Record) (i stream : ℕ) (bytes : ByteString) (cut : Option Cut) (old new : SourceCore) → all_ended h i ≡ false → 0 < length bytes → (Contains (ended_streams h i) stream → ⊥) → IsAbreast h i old →
     IfSome cut (λ brought. HasFed old stream bytes brought new) → HasCut h i new (record { stream = stream; took = taken.Bytes bytes }) cut
 fed_turned h i stream bytes None old new over some unended a fed = tt
 fed_turned h i stream bytes (Some brought) old new over some unended a fed = (fed_abreast h i stream bytes brought old new some unended a fed, fed_cut h i stream bytes brought old new over unended a fed)
@@ -284,7 +284,7 @@ finished_turned h i stream took (Some brought) old new ends over is a finished =
 -- a turn of a source that may be read
 pub has_turned : (h : Record) (i : ℕ) (ended : List ℕ) (old : SourceCore) (turned : Turned) (new : SourceCore) → MayTurnOn h i ended → IsAbreast h i old → BringsSome turned → IsOfOpen ended turned → HasBrought old turned new → HasTurned h i new turned
 has_turned h i ended old (Lines stream n room cut) new may a some unended b =
-    fed_turned h i stream (take n room.value.items) cut old new may.unended some.0 (subst (λ (streams : List ℕ). Contains streams stream → ⊥) may.told unended) a b
+    fed_turned h i stream (take n room.value.items) cut old new may.unended some.0 (subst (λ (streams : List ℕ). Contains streams stream → ⊥) may.observed unended) a b
 has_turned h i ended old (StreamEnded stream cut) new may a some unended b = finished_turned h i stream taken.StreamEnded cut old new tt may.unended refl a b
 has_turned h i ended old (AllEnded stream cut) new may a some unended b =
     finished_turned h i stream taken.AllEnded cut old new tt may.unended (ap (λ (o : Option ℕ). unwrap_or o 0) (sym a.last) ∙ sym b.0) a b.1

@@ -9,7 +9,7 @@ use Rattle.vx_record.specs.Records.{Record, capped}
 use Rattle.vx_record.specs.Installs.{component_of}
 use Rattle.vx_record.specs.Reads.{stream_of, open_bytes, limit_of, new_lines, undecodable_among, undecodable_lines}
 use Rattle.vx_record.proofs.PastLines.{past-dropped, past-less}
-use Rattle.vx_sourcecore.specs.NewLines.{codec_of, undecodable_by, AreFramed, FramedCounted, ToldNew}
+use Rattle.vx_sourcecore.specs.NewLines.{codec_of, undecodable_by, AreFramed, FramedCounted, ObservedNew}
 
 drop-front : (xs ys : List Frame) → drop (length xs) (xs ++ ys) ≡ ys
 drop-front [] ys = refl
@@ -42,11 +42,11 @@ framed_counted h i stream took lines over framed =
       undecodable = by_codec (component_of h i) (new_lines h i stream took) ∙ ap (undecodable_by (codec_of h i)) same;
     }
 
-pub told_new : ToldNew
-told_new h i stream took lines over d new framed codec told =
+pub observed_new : ObservedNew
+observed_new h i stream took lines over d new framed codec observed =
     let counted = framed_counted h i stream took lines over framed in
     record {
-      lines = told.within ∙ ap capped (sym counted.within);
-      overlong = told.too_long ∙ ap capped (sym counted.overlong);
-      undecodable = told.undecoded ∙ ap capped (sym (counted.undecodable ∙ ap (λ o. undecodable_by o lines) codec));
+      lines = observed.within ∙ ap capped (sym counted.within);
+      overlong = observed.too_long ∙ ap capped (sym counted.overlong);
+      undecodable = observed.undecoded ∙ ap capped (sym (counted.undecodable ∙ ap (λ o. undecodable_by o lines) codec));
     }

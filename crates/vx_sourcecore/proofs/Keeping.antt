@@ -2,7 +2,7 @@
 use Rattle.std.proofs.Common.{◌≡◌, ℕ, ◌+◌, ◌-◌, Bool, true, false, List, [], ◌∷◌, ◌++◌, length, Option, Some, None, refl, sym, ap, subst, ◌∙◌}
 use Rattle.std.specs.Prelude.{is_some, if◌then◌else◌, ◌==◌, ◌&&◌, unwrap_or, IsSomeAnd, Contains}
 use Rattle.std.proofs.lemmas.List.{append-nil}
-use Rattle.vx_value.specs.Texts.{Word}
+use Rattle.vx_value.specs.Texts.{ByteString}
 use Rattle.vx_value.specs.declared.event.Event.{Event}
 use Rattle.vx_frame.specs.Framings.{HasTaken}
 use Rattle.vx_frame.specs.Frames.{Frame}
@@ -103,7 +103,7 @@ read_alike old new i stream took alike =
       component = alike.component;
       last = λ t. if (i == i) && has_bytes took then Some stream else last t;
       open_now = λ s. let before = alike.open_now s in λ t. if (i == i) && (of t == s) then still_open took (before t) else before t;
-      all = λ s. ap (λ (w : Word). w ++ (if (i == i) && (stream == s) then bytes_of took else [])) (alike.all s);
+      all = λ s. ap (λ (w : ByteString). w ++ (if (i == i) && (stream == s) then bytes_of took else [])) (alike.all s);
       ended = λ t. ended t ++ ended_by i (Read i stream took);
     }
 
@@ -111,7 +111,7 @@ pub abreast_alike : (old new : Record) (i : ℕ) (core : SourceCore) → IsAlike
 abreast_alike old new i core alike a = record {
   made_for = subst (λ (o : Option Component). IsSomeAnd o (λ (c : Component). IsMadeFor c.settings core)) (sym alike.component) a.made_for;
   last = a.last ∙ sym alike.last;
-  taken = λ s. subst (λ (w : Word). HasTaken core.framer s w) (sym (alike.open_now s)) (a.taken s);
+  taken = λ s. subst (λ (w : ByteString). HasTaken core.framer s w) (sym (alike.open_now s)) (a.taken s);
   ended = λ s there. alike.open_now s ∙ a.ended s (subst (λ (xs : List ℕ). Contains xs s) alike.ended there);
 }
 
@@ -201,6 +201,6 @@ fresh_abreast h i c d core is decodes fresh last none = record {
   made_for = subst (λ (o : Option Component). IsSomeAnd o (λ (c : Component). IsMadeFor c.settings core)) (sym is)
       (record { limit = fresh.limit_is; source_type = fresh.type_is; file = fresh.file_is; decoding_is = decodes ∙ ap Some (sym fresh.decoding_is) });
   last = fresh.none ∙ sym last;
-  taken = λ s. subst (λ (w : Word). HasTaken core.framer s w) (sym (none s)) (fresh.fresh s);
+  taken = λ s. subst (λ (w : ByteString). HasTaken core.framer s w) (sym (none s)) (fresh.fresh s);
   ended = λ s there. none s;
 }

@@ -5,7 +5,7 @@ use Rattle.std.specs.List.{list_all}
 use Rattle.std.specs.Fmt.{digit_glyph, digits_onto, digits}
 use Rattle.std.proofs.lemmas.Bool.{and_from as both_true, and_parts}
 use Rattle.std.proofs.lemmas.Bool.Decides.{nat_tests}
-use Rattle.vx_value.specs.Texts.{Word}
+use Rattle.vx_value.specs.Texts.{ByteString}
 use Rattle.vx_frame.specs.Frames.{Parts, cut}
 use Rattle.vx_demo.specs.DemoLines.{word_at, line_mark, demo_line}
 use Rattle.vx_demo.specs.declared.demo_settings.DemoSettings.{DemoSettings}
@@ -15,7 +15,7 @@ use Rattle.vx_record.proofs.Counts.{count-append}
 use Rattle.vx_sourcecore.specs.Lines.{is_unbroken}
 
 -- a text without a line feed has none
-unbroken_count : (text : Word) → is_unbroken text ≡ true → count 10 text ≡ 0
+unbroken_count : (text : ByteString) → is_unbroken text ≡ true → count 10 text ≡ 0
 unbroken_count [] is = refl
 unbroken_count (b ∷ text) is =
     let both = and_parts (not (b == 10)) (is_unbroken text) is in
@@ -26,7 +26,7 @@ unbroken_count (b ∷ text) is =
     go false is rest = omega (arith, rest)
 
 -- none of some texts has one, whichever is chosen
-unbroken_at : (texts : List Word) (j : ℕ) → list_all is_unbroken texts ≡ true → is_unbroken (slice_index_or texts j []) ≡ true
+unbroken_at : (texts : List ByteString) (j : ℕ) → list_all is_unbroken texts ≡ true → is_unbroken (slice_index_or texts j []) ≡ true
 unbroken_at [] j all = refl
 unbroken_at (text ∷ texts) zero all = (and_parts (is_unbroken text) (list_all is_unbroken texts) all).0
 unbroken_at (text ∷ texts) (suc j) all = unbroken_at texts j (and_parts (is_unbroken text) (list_all is_unbroken texts) all).1
@@ -35,7 +35,7 @@ unbroken_at (text ∷ texts) (suc j) all = unbroken_at texts j (and_parts (is_un
 glyph_fine : (d : ℕ) → not (digit_glyph false d == 10) ≡ true
 glyph_fine d = grind (arith, nat_tests)
 
-onto_unbroken : (k base n : ℕ) (behind : Word) → is_unbroken behind ≡ true → is_unbroken (digits_onto k base false n behind) ≡ true
+onto_unbroken : (k base n : ℕ) (behind : ByteString) → is_unbroken behind ≡ true → is_unbroken (digits_onto k base false n behind) ≡ true
 onto_unbroken zero base n behind is = is
 onto_unbroken (suc k) base n behind is = go (n / base == 0) more (onto_unbroken k base (n / base) (digit_glyph false (n % base) ∷ behind) more)
   where
@@ -62,7 +62,7 @@ mark_count true k = count-append 10 (decimal k) (32 ∷ []) ∙ omega (arith, de
 -- a line has none
 line_count : (demo : DemoSettings) (k : ℕ) → list_all is_unbroken demo.lines ≡ true → count 10 (demo_line demo k) ≡ 0
 line_count demo k all =
-    let text : Word = slice_index_or demo.lines (word_at demo.seed k % length demo.lines) [] in
+    let text : ByteString = slice_index_or demo.lines (word_at demo.seed k % length demo.lines) [] in
     let none = unbroken_count text (unbroken_at demo.lines (word_at demo.seed k % length demo.lines) all) in
     count-append 10 (line_mark demo.sequence k) text ∙ omega (arith, none, mark_count demo.sequence k)
 
@@ -76,12 +76,12 @@ lines_count demo k (suc n) all =
     count-append 10 (demo_line demo k) (10 ∷ lines_from demo (k + 1) n) ∙ omega (arith, line, fed)
 
 -- bytes of which there is one are some
-pub count_some : (c : ℕ) (bytes : Word) → 0 < count c bytes → 0 < length bytes
+pub count_some : (c : ℕ) (bytes : ByteString) → 0 < count c bytes → 0 < length bytes
 count_some c [] some = some
 count_some c (b ∷ bytes) some = omega arith
 
 -- bytes are cut at each line feed
-pub cut_count : (bytes : Word) → length (cut bytes).more ≡ count 10 bytes
+pub cut_count : (bytes : ByteString) → length (cut bytes).more ≡ count 10 bytes
 cut_count [] = refl
 cut_count (b ∷ bytes) = go (eqb b 10) (cut_count bytes)
   where

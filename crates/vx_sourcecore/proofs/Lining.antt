@@ -3,7 +3,7 @@ use Rattle.std.proofs.Common.{◌≡◌, ℕ, suc, ◌+◌, ◌≤◌, Bool, tru
 use Rattle.std.specs.Prelude.{◌==◌, if◌then◌else◌, Option, Some, None, is_some, IfSome, Result, Ok, Err, IfOk, flat_map}
 use Rattle.std.proofs.lemmas.Bool.Decides.{nat_tests}
 use Rattle.std.proofs.lemmas.List.{length-append, flat_map_more}
-use Rattle.vx_value.specs.Texts.{Word, is_empty}
+use Rattle.vx_value.specs.Texts.{ByteString, is_empty}
 use Rattle.vx_value.specs.Datum.{NamedDatum}
 use Rattle.vx_value.specs.declared.event.Event.{Event}
 use Rattle.vx_value.specs.declared.want_of_memory.WantOfMemory.{WantOfMemory}
@@ -17,7 +17,7 @@ use Rattle.vx_json.specs.LineEvents.{line_fields, event_fields}
 use Rattle.vx_record.specs.Reads.{event_with}
 use Rattle.vx_sourcecore.specs.declared.new_lines.NewLines.{NewLines}
 use Rattle.vx_sourcecore.specs.declared.source.Cut.{Cut}
-use Rattle.vx_sourcecore.specs.NewLines.{AreTold, IsToldOf}
+use Rattle.vx_sourcecore.specs.NewLines.{AreObserved, IsObservedOf}
 use Rattle.vx_sourcecore.specs.declared.source.SourceCore.{SourceCore}
 use Rattle.vx_sourcecore.specs.declared.source.Turned.{Turned}
 use Rattle.vx_sourcecore.specs.declared.source.Turned.TheVariants.{Lines, StreamEnded, AllEnded, Idle, Failed}
@@ -35,26 +35,26 @@ some_fields None = refl
 some_fields (Some event) = refl
 
 -- bytes that are none
-pub none_there : (w : Word) → (length w == 0) ≡ is_empty w
+pub none_there : (w : ByteString) → (length w == 0) ≡ is_empty w
 none_there [] = refl
 none_there (b ∷ w) = let some : (length (b ∷ w) == 0) ≡ false = grind (arith, nat_tests) in some
 
 -- how a line more is told
-abbrev pub TellsLine : NewLines → Bool → Bool → NewLines → Type 0
-TellsLine old empty gives new =
-    (d : Decoding) (given : List Frame) (frame : Frame) (over : ℕ) → IsToldOf d frame empty gives → AreTold d given over old → AreTold d (given ++ frame ∷ []) over new
+abbrev pub ReportsLine : NewLines → Bool → Bool → NewLines → Type 0
+ReportsLine old empty gives new =
+    (d : Decoding) (given : List Frame) (frame : Frame) (over : ℕ) → IsObservedOf d frame empty gives → AreObserved d given over old → AreObserved d (given ++ frame ∷ []) over new
 
 -- one line more gives its event more, if it gives one, and its end, and counts once
-pub line_step : (d : Decoding) (source_type : Word) (file : Option Word) (lines : List Line) (line : Line) (event : Option Event) (empty gives : Bool) (old new : Cut) →
-    event_fields event ≡ line_fields d source_type file line.bytes → empty ≡ is_empty line.bytes → gives ≡ is_some event → TellsLine old.new empty gives new.new →
+pub line_step : (d : Decoding) (source_type : ByteString) (file : Option ByteString) (lines : List Line) (line : Line) (event : Option Event) (empty gives : Bool) (old new : Cut) →
+    event_fields event ≡ line_fields d source_type file line.bytes → empty ≡ is_empty line.bytes → gives ≡ is_some event → ReportsLine old.new empty gives new.new →
     new.events ≡ old.events ++ event_with (event_fields event) → new.end ≡ line.end → IsOf d source_type file lines 0 old → IsOf d source_type file (lines ++ line ∷ []) 0 new
-line_step d source_type file lines line event empty gives old new made bare some tells pushed ends so =
+line_step d source_type file lines line event empty gives old new made bare some reports pushed ends so =
     let f : Line → List Event = events_of_cut d source_type file in
     record {
       each = pushed ∙ ap (λ (o : Option (List NamedDatum)). old.events ++ event_with o) made ∙ ap (λ (es : List Event). es ++ f line) so.each ∙ flat_map_more f [] lines line;
       last = ends ∙ sym (end_last lines line);
-      new = subst (λ (fs : List Frame). AreTold d fs 0 new.new) (sym (map_more frame_of lines line))
-          (tells d (map frame_of lines) (frame_of line) 0 (record { empty_is = bare; gives_is = (source_type, (file, some ∙ some_fields event ∙ ap (λ (o : Option (List NamedDatum)). is_some o) made)) }) so.new);
+      new = subst (λ (fs : List Frame). AreObserved d fs 0 new.new) (sym (map_more frame_of lines line))
+          (reports d (map frame_of lines) (frame_of line) 0 (record { empty_is = bare; gives_is = (source_type, (file, some ∙ some_fields event ∙ ap (λ (o : Option (List NamedDatum)). is_some o) made)) }) so.new);
     }
 
 kept_few : (limit : ℕ) (f : Frame) (fs : List Frame) (n : ℕ) → length fs ≤ n → length (kept limit f fs) ≤ n + 1
@@ -86,7 +86,7 @@ with_few None = omega arith
 with_few (Some fields) = omega arith
 
 -- a line gives one event at most
-events_few : (d : Decoding) (source_type : Word) (file : Option Word) (lines : List Line) → length (flat_map (events_of_cut d source_type file) lines) ≤ length lines
+events_few : (d : Decoding) (source_type : ByteString) (file : Option ByteString) (lines : List Line) → length (flat_map (events_of_cut d source_type file) lines) ≤ length lines
 events_few d source_type file [] = omega arith
 events_few d source_type file (line ∷ lines) =
     let first = with_few (line_fields d source_type file line.bytes) in
@@ -95,7 +95,7 @@ events_few d source_type file (line ∷ lines) =
     omega (arith, first, rest, both)
 
 -- so no more events are cut than there are lines
-pub cut_few : (d : Decoding) (source_type : Word) (file : Option Word) (stream over : ℕ) (frames : List Frame) (brought : Cut) → IsOf d source_type file (map (line_of stream) frames) over brought → length brought.events ≤ length frames
+pub cut_few : (d : Decoding) (source_type : ByteString) (file : Option ByteString) (stream over : ℕ) (frames : List Frame) (brought : Cut) → IsOf d source_type file (map (line_of stream) frames) over brought → length brought.events ≤ length frames
 cut_few d source_type file stream over frames brought are =
     let mapped : length (map (line_of stream) frames) ≡ length frames = map_length (line_of stream) frames in
     let few : length brought.events ≤ length (map (line_of stream) frames) = subst (λ (es : List Event). length es ≤ length (map (line_of stream) frames)) (sym are.each) (events_few d source_type file (map (line_of stream) frames)) in

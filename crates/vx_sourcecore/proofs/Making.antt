@@ -4,7 +4,7 @@ use Rattle.std.specs.Prelude.{◌==◌, ◌&&◌, if◌then◌else◌, unwrap_or
 use Rattle.std.specs.List.{list_all}
 use Rattle.std.proofs.lemmas.Bool.{and_from as both_true}
 use Rattle.std.proofs.lemmas.List.{append-nil}
-use Rattle.vx_value.specs.Texts.{Word}
+use Rattle.vx_value.specs.Texts.{ByteString}
 use Rattle.vx_frame.specs.Frames.{cut as parts}
 use Rattle.vx_frame.specs.Framings.{unfinished}
 use Rattle.vx_demo.specs.declared.demo_settings.DemoSettings.{DemoSettings}
@@ -27,9 +27,9 @@ use Rattle.vx_sourcecore.proofs.Lining.{lines_few, cut_few}
 use Rattle.vx_sourcecore.proofs.LineFeeds.{lines_count, count_some, cut_count}
 
 -- LINES GIVEN
-given_read : (h : Record) (i : ℕ) (bytes : Word) → lines_given (Read i 0 (taken.Bytes bytes) ∷ h) i ≡ lines_given h i + count 10 bytes
+given_read : (h : Record) (i : ℕ) (bytes : ByteString) → lines_given (Read i 0 (taken.Bytes bytes) ∷ h) i ≡ lines_given h i + count 10 bytes
 given_read h i bytes =
-    ap (λ (w : Word). count 10 (taken h i 0 ++ w)) (when_true ((i == i) && (0 == 0)) bytes [] (both_true (i == i) (0 == 0) (same_test i) refl))
+    ap (λ (w : ByteString). count 10 (taken h i 0 ++ w)) (when_true ((i == i) && (0 == 0)) bytes [] (both_true (i == i) (0 == 0) (same_test i) refl))
     ∙ count-append 10 (taken h i 0) bytes
 
 given_end : (h : Record) (i stream : ℕ) → lines_given (Read i stream taken.AllEnded ∷ h) i ≡ lines_given h i
@@ -45,7 +45,7 @@ next_count source most unbroken = lines_count source.settings source.given (min 
 
 -- TURNS
 -- a generator that cut its next lines
-pub fed_made : (h : Record) (i : ℕ) (old new : Generator) (bytes : Word) (cut : Option Cut) → all_ended h i ≡ false → IsGenerating h i old →
+pub fed_made : (h : Record) (i : ℕ) (old new : Generator) (bytes : ByteString) (cut : Option Cut) → all_ended h i ≡ false → IsGenerating h i old →
     0 < left_of old.lines → bytes ≡ next_lines old.lines old.most → new.lines ≡ behind old.lines old.most → new.most ≡ old.most →
     IfSome cut (λ brought. HasFed old.core 0 bytes brought new.core) → HasMadeCut h i new (record { stream = 0; took = taken.Bytes bytes }) cut
 fed_made h i old new bytes None over is left made lines most fed = tt
@@ -93,7 +93,7 @@ finished_made h i old new stream (Some brought) over is at lines most finished =
     turned = finished_turned h i stream taken.AllEnded (Some brought) old.core new.core tt over (ap (λ (o : Option ℕ). unwrap_or o 0) (sym is.abreast.last) ∙ sym at) is.abreast finished
 
 -- no more lines are cut than were made
-pub few_made : (old : Generator) (new : SourceCore) (bytes : Word) (cut : Option Cut) → bytes ≡ next_lines old.lines old.most →
+pub few_made : (old : Generator) (new : SourceCore) (bytes : ByteString) (cut : Option Cut) → bytes ≡ next_lines old.lines old.most →
     IfSome cut (λ brought. HasFed old.core 0 bytes brought new) → IfSome cut (λ brought. length brought.events ≤ 65536)
 few_made old new bytes None made fed = tt
 few_made old new bytes (Some brought) made fed =

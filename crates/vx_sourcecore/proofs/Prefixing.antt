@@ -11,7 +11,7 @@ use Rattle.vx_sourcecore.specs.declared.ends.Ends.{Ends}
 use Rattle.vx_sourcecore.specs.declared.prefix.Due.{Due}
 use Rattle.vx_sourcecore.specs.declared.prefix.Passing.{Passing}
 use Rattle.vx_sourcecore.specs.declared.prefix.Prefix.{Prefix}
-use Rattle.vx_sourcecore.specs.Prefixes.{ends_of, birth_at, Judgement, MayAll, MayNotFirst, IsNoneOf, AreApart, IsKeptOf, AreKeptOf, IsNewDue, IsCutOf, IsPrefixOf, IsReadyFor, Tells, GoesOn, IsAskFor, IsPopped, IsHeld, passed_in, new_due, fails, kept_before, has_failed}
+use Rattle.vx_sourcecore.specs.Prefixes.{ends_of, birth_at, Judgement, MayAll, MayNotFirst, IsNoneOf, AreApart, IsKeptOf, AreKeptOf, IsNewDue, IsCutOf, IsPrefixOf, IsReadyFor, NoticeChanges, GoesOn, IsAskFor, IsPopped, IsHeld, passed_in, new_due, fails, kept_before, has_failed}
 use Rattle.vx_sourcecore.proofs.Dues.{last_more, map_more}
 
 -- POSITIONS
@@ -298,51 +298,51 @@ hit true t d e f = refl
 hit false true d e f = f
 hit false false d e f = cc
 
-others : (b : ℕ) (delivered : Bool) (judged next : Judgement) → Tells b delivered judged next → SaysSame b judged next
-others b delivered judged next tells birth other =
+others : (b : ℕ) (delivered : Bool) (judged next : Judgement) → NoticeChanges b delivered judged next → SaysSame b judged next
+others b delivered judged next reports birth other =
     let away : (b == birth.batch) ≡ false = grind (arith, nat_tests, other) in
-    (sym (tells.may birth ∙ unhit (judged.may birth) (b == birth.batch) delivered away), sym (tells.never birth ∙ unhit (judged.never birth) (b == birth.batch) (not delivered) away))
+    (sym (reports.may birth ∙ unhit (judged.may birth) (b == birth.batch) delivered away), sym (reports.never birth ∙ unhit (judged.never birth) (b == birth.batch) (not delivered) away))
 
 apart_rest : (xs ys : List Birth) → AreApart (xs ++ ys) → AreApart ys
 apart_rest [] ys apart = apart
 apart_rest (x ∷ xs) ys apart = apart_rest xs ys apart.1
 
 -- of the batch that is told of nothing was said before
-told_first : (b : ℕ) (delivered : Bool) (judged next : Judgement) (x : Birth) → Tells b delivered judged next → judged.never x ≡ true → (x.batch == b) ≡ false
-told_first b delivered judged next x tells never = go (x.batch == b) (tells.first x)
+observed_first : (b : ℕ) (delivered : Bool) (judged next : Judgement) (x : Birth) → NoticeChanges b delivered judged next → judged.never x ≡ true → (x.batch == b) ≡ false
+observed_first b delivered judged next x reports never = go (x.batch == b) (reports.first x)
   where
     go : (t : Bool) → (t ≡ true → judged.never x ≡ false) → t ≡ false
     go true first = let no : judged.never x ≡ false = first refl in cc
     go false first = refl
 
 -- THE BATCH WAS DELIVERED
-kept_passed : (blocked : Bool) (judged next : Judgement) (b : ℕ) (before : List Position) (rows : List Passing) (bs : List Birth) → Tells b true judged next → AreApart bs → AreKeptOf blocked judged before rows bs → AreKeptOf blocked next before (passed_in b rows) bs
-kept_passed blocked judged next b before [] [] tells apart kept = kept
-kept_passed blocked judged next b before [] (x ∷ bs) tells apart kept =
-    let says = others b true judged next tells x (told_first b true judged next x tells kept.1) in (kept.0, sym says.1 ∙ kept.1, sym says.0 ∙ kept.2)
-kept_passed blocked judged next b before (row ∷ rows) [] tells apart kept = absurd kept
-kept_passed blocked judged next b before (row ∷ rows) (x ∷ bs) tells apart kept = go (row.batch == b) refl (kept_passed blocked judged next b (moved_to x.stream x.end before) rows bs tells apart.1 kept.1)
+kept_passed : (blocked : Bool) (judged next : Judgement) (b : ℕ) (before : List Position) (rows : List Passing) (bs : List Birth) → NoticeChanges b true judged next → AreApart bs → AreKeptOf blocked judged before rows bs → AreKeptOf blocked next before (passed_in b rows) bs
+kept_passed blocked judged next b before [] [] reports apart kept = kept
+kept_passed blocked judged next b before [] (x ∷ bs) reports apart kept =
+    let says = others b true judged next reports x (observed_first b true judged next x reports kept.1) in (kept.0, sym says.1 ∙ kept.1, sym says.0 ∙ kept.2)
+kept_passed blocked judged next b before (row ∷ rows) [] reports apart kept = absurd kept
+kept_passed blocked judged next b before (row ∷ rows) (x ∷ bs) reports apart kept = go (row.batch == b) refl (kept_passed blocked judged next b (moved_to x.stream x.end before) rows bs reports apart.1 kept.1)
   where
     others_of : x.batch ≡ b → SaysSame x.batch judged next
-    others_of is birth other = others b true judged next tells birth (grind (arith, nat_tests, other, is))
+    others_of is birth other = others b true judged next reports birth (grind (arith, nat_tests, other, is))
 
     go : (t : Bool) → (row.batch == b) ≡ t → AreKeptOf blocked next (moved_to x.stream x.end before) (passed_in b rows) bs → AreKeptOf blocked next before (if t then record row { passed = true } ∷ rows else row ∷ passed_in b rows) (x ∷ bs)
     go true e later =
         let is : x.batch ≡ b = (let here : row.batch ≡ b = grind (arith, nat_tests) in sym kept.0.batch ∙ here) in
-        let found : next.may x ≡ true = tells.may x ∙ hit (judged.may x) (b == x.batch) true (grind (arith, nat_tests, is)) refl in (
+        let found : next.may x ≡ true = reports.may x ∙ hit (judged.may x) (b == x.batch) true (grind (arith, nat_tests, is)) refl in (
           record { batch = kept.0.batch; passed = sym found; positions = kept.0.positions; copy = kept.0.copy },
           kept_by blocked judged next (moved_to x.stream x.end before) rows bs x.batch (others_of is) apart.0 kept.1,
         )
     go false e later =
         let other : (x.batch == b) ≡ false = (let same : row.batch ≡ x.batch = kept.0.batch in grind (arith, nat_tests, e, same)) in (
-          record { batch = kept.0.batch; passed = kept.0.passed ∙ (others b true judged next tells x other).0; positions = kept.0.positions; copy = kept.0.copy },
+          record { batch = kept.0.batch; passed = kept.0.passed ∙ (others b true judged next reports x other).0; positions = kept.0.positions; copy = kept.0.copy },
           later,
         )
 
-pub cut_passed : (old new : Prefix) (b : ℕ) (delivered : Bool) (judged next : Judgement) (births : List Birth) (asked : List Position) → delivered ≡ true → Tells b delivered judged next → AreApart births →
+pub cut_passed : (old new : Prefix) (b : ℕ) (delivered : Bool) (judged next : Judgement) (births : List Birth) (asked : List Position) → delivered ≡ true → NoticeChanges b delivered judged next → AreApart births →
     new ≡ record old { behind = new.behind } → new.behind.items ≡ passed_in b old.behind.items → IsPrefixOf old judged births asked → IsCutOf new next births asked
-cut_passed old new b delivered judged next births asked is_delivered tells apart rest behind is =
-    let sure : Tells b true judged next = subst (λ (t : Bool). Tells b t judged next) is_delivered tells in
+cut_passed old new b delivered judged next births asked is_delivered reports apart rest behind is =
+    let sure : NoticeChanges b true judged next = subst (λ (t : Bool). NoticeChanges b t judged next) is_delivered reports in
     record {
       done = is.done;
       rest = is.rest;
@@ -377,29 +377,29 @@ split_fails true true e = cc
 split_fails true false e = (refl, refl)
 split_fails false p e = cc
 
-kept_failed : (blocked : Bool) (judged next : Judgement) (b : ℕ) (before : List Position) (rows : List Passing) (bs : List Birth) → Tells b false judged next → AreKeptOf blocked judged before rows bs →
+kept_failed : (blocked : Bool) (judged next : Judgement) (b : ℕ) (before : List Position) (rows : List Passing) (bs : List Birth) → NoticeChanges b false judged next → AreKeptOf blocked judged before rows bs →
     AreKeptOf (blocked || has_failed b rows) next before (kept_before b rows) bs
-kept_failed blocked judged next b before [] [] tells kept = or_false blocked ∙ kept
-kept_failed blocked judged next b before [] (x ∷ bs) tells kept =
-    let says = others b false judged next tells x (told_first b false judged next x tells kept.1) in (or_false blocked ∙ kept.0, sym says.1 ∙ kept.1, sym says.0 ∙ kept.2)
-kept_failed blocked judged next b before (row ∷ rows) [] tells kept = absurd kept
-kept_failed blocked judged next b before (row ∷ rows) (x ∷ bs) tells kept = go (fails b row) refl (kept_failed blocked judged next b (moved_to x.stream x.end before) rows bs tells kept.1)
+kept_failed blocked judged next b before [] [] reports kept = or_false blocked ∙ kept
+kept_failed blocked judged next b before [] (x ∷ bs) reports kept =
+    let says = others b false judged next reports x (observed_first b false judged next x reports kept.1) in (or_false blocked ∙ kept.0, sym says.1 ∙ kept.1, sym says.0 ∙ kept.2)
+kept_failed blocked judged next b before (row ∷ rows) [] reports kept = absurd kept
+kept_failed blocked judged next b before (row ∷ rows) (x ∷ bs) reports kept = go (fails b row) refl (kept_failed blocked judged next b (moved_to x.stream x.end before) rows bs reports kept.1)
   where
     may_same : next.may x ≡ judged.may x
-    may_same = tells.may x ∙ unset (judged.may x) (b == x.batch) false refl
+    may_same = reports.may x ∙ unset (judged.may x) (b == x.batch) false refl
 
     go : (t : Bool) → fails b row ≡ t → AreKeptOf (blocked || has_failed b rows) next (moved_to x.stream x.end before) (kept_before b rows) bs →
         AreKeptOf (blocked || (t || has_failed b rows)) next before (if t then [] else row ∷ kept_before b rows) (x ∷ bs)
     go true e later =
         let parts = split_fails (row.batch == b) row.passed e in
         let is : x.batch ≡ b = (let here : row.batch ≡ b = grind (arith, nat_tests, parts.0) in sym kept.0.batch ∙ here) in
-        (or_true blocked, tells.never x ∙ hit (judged.never x) (b == x.batch) true (grind (arith, nat_tests, is)) refl, may_same ∙ sym kept.0.passed ∙ parts.1)
+        (or_true blocked, reports.never x ∙ hit (judged.never x) (b == x.batch) true (grind (arith, nat_tests, is)) refl, may_same ∙ sym kept.0.passed ∙ parts.1)
     go false e later = (record { batch = kept.0.batch; passed = kept.0.passed ∙ sym may_same; positions = kept.0.positions; copy = kept.0.copy }, later)
 
-pub prefix_failed : (old new : Prefix) (b : ℕ) (delivered : Bool) (judged next : Judgement) (births : List Birth) (asked : List Position) → delivered ≡ false → Tells b delivered judged next →
+pub prefix_failed : (old new : Prefix) (b : ℕ) (delivered : Bool) (judged next : Judgement) (births : List Birth) (asked : List Position) → delivered ≡ false → NoticeChanges b delivered judged next →
     new ≡ record old { behind = new.behind; blocked = new.blocked } → new.behind.items ≡ kept_before b old.behind.items → new.blocked ≡ (old.blocked || has_failed b old.behind.items) → IsPrefixOf old judged births asked → IsPrefixOf new next births asked
-prefix_failed old new b delivered judged next births asked undelivered tells rest behind blocked is =
-    let sure : Tells b false judged next = subst (λ (t : Bool). Tells b t judged next) undelivered tells in
+prefix_failed old new b delivered judged next births asked undelivered reports rest behind blocked is =
+    let sure : NoticeChanges b false judged next = subst (λ (t : Bool). NoticeChanges b t judged next) undelivered reports in
     let may_same : (x : Birth) → next.may x ≡ judged.may x = λ x. sure.may x ∙ unset (judged.may x) (b == x.batch) false refl in
     record {
       done = is.done;

@@ -3,7 +3,7 @@ use Rattle.std.proofs.Common.{◌≡◌, ℕ, zero, suc, ◌+◌, [], ◌∷◌,
 use Rattle.std.proofs.lemmas.List.{take_at}
 use Rattle.rand_pcg.specs.Lcg.{next_state, state_after}
 use Rattle.rand_pcg.specs.Pcg.{multiplier_64, pcg32}
-use Rattle.vx_value.specs.Texts.{Word}
+use Rattle.vx_value.specs.Texts.{ByteString}
 use Rattle.vx_json.specs.Growth.{Keeps}
 use Rattle.vx_json.proofs.Growths.{keeps-more}
 use Rattle.vx_demo.specs.DemoLines.{generator, word_at, demo_line}
@@ -36,7 +36,7 @@ lines_from-more demo k (suc n) =
     ∙ simp append_assoc
 
 -- bytes that keep others with more behind them keep those
-pub keeps-behind : (old more now new : Word) → now ≡ old ++ more → Keeps now new → Keeps old new
+pub keeps-behind : (old more now new : ByteString) → now ≡ old ++ more → Keeps now new → Keeps old new
 keeps-behind old more now new e k = keeps-more old now new (record { front = ap (take (length old)) e ∙ take_at old more (length old) refl }) k
 
 -- what a line more takes

@@ -55,4 +55,4 @@ HasTurned h i core turned = HasTurnedBy h i core (reading_of turned) (cut_of tur
 -- what a turn of a source that was abreast needs: the end of all wasn't told, and the streams that ended are the record's
 pub record MayTurnOn (h : Record) (i : ℕ) (ended : List ℕ) : Type 0 where
   pub unended : all_ended h i ≡ false
-  pub told : ended ≡ ended_streams h i
+  pub observed : ended ≡ ended_streams h i

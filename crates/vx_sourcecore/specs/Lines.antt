@@ -3,7 +3,7 @@ use Rattle.std.specs.Prelude.{ℕ, ◌≡◌, ◌+◌, ◌-◌, ◌<◌, ◌≤�
 use Rattle.std.specs.List.{list_all}
 use Rattle.rand_pcg.specs.Lcg.{Lcg, advance}
 use Rattle.rand_pcg.specs.Pcg.{multiplier_64}
-use Rattle.vx_value.specs.Texts.{Word, is_empty}
+use Rattle.vx_value.specs.Texts.{ByteString, is_empty}
 use Rattle.vx_demo.specs.DemoLines.{generator}
 use Rattle.vx_demo.specs.declared.demo_settings.DemoSettings.{DemoSettings}
 use Rattle.vx_record.specs.Generating.{lines_from}
@@ -20,7 +20,7 @@ abbrev pub left_of : Generated → ℕ
 left_of source = source.settings.count - source.given
 
 -- the lines that come next, so many at most at once
-abbrev pub next_lines : Generated → ℕ → Word
+abbrev pub next_lines : Generated → ℕ → ByteString
 next_lines source most = lines_from source.settings source.given (min most (left_of source))
 
 -- the source behind them
@@ -38,7 +38,7 @@ pub record IsInStep (settings : DemoSettings) (given : ℕ) (words : Lcg) : Type
   pub words_are : words ≡ generator_at settings.seed given
 
 -- whether a text has no line feed
-abbrev pub is_unbroken : Word → Bool
+abbrev pub is_unbroken : ByteString → Bool
 is_unbroken text = list_all (λ byte. not (byte == 10)) text
 
 -- whether settings are those of a source that makes its lines itself, of some texts, none of which has a line feed
@@ -57,16 +57,16 @@ is_generating (FileOut path compression codec sink) = false
 is_generating (Blackhole seconds sink) = false
 
 -- whether settings are those of a sink that writes nothing
-abbrev pub is_swallowing : Settings → Bool
-is_swallowing (Stdin max_length codec) = false
-is_swallowing (FileIn most path from codec) = false
-is_swallowing (DemoLogs demo interval) = false
-is_swallowing (Filter condition) = false
-is_swallowing (Route routes reroute) = false
-is_swallowing (Sample rate exclude) = false
-is_swallowing (Dedupe fields most) = false
-is_swallowing (Reduce group_by starts_when ends_when expire flush strategies) = false
-is_swallowing Host = false
-is_swallowing (Console target codec sink) = false
-is_swallowing (FileOut path compression codec sink) = false
-is_swallowing (Blackhole seconds sink) = true
+abbrev pub is_blackhole : Settings → Bool
+is_blackhole (Stdin max_length codec) = false
+is_blackhole (FileIn most path from codec) = false
+is_blackhole (DemoLogs demo interval) = false
+is_blackhole (Filter condition) = false
+is_blackhole (Route routes reroute) = false
+is_blackhole (Sample rate exclude) = false
+is_blackhole (Dedupe fields most) = false
+is_blackhole (Reduce group_by starts_when ends_when expire flush strategies) = false
+is_blackhole Host = false
+is_blackhole (Console target codec sink) = false
+is_blackhole (FileOut path compression codec sink) = false
+is_blackhole (Blackhole seconds sink) = true

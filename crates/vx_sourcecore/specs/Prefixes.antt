@@ -105,7 +105,7 @@ pub record IsReadyFor (prefix : Prefix) (position : Position) (ends : Ends) : Ty
 
 -- what a notice, the first of its batch, changes of what is said: where that was delivered it may be confirmed, and else it
 -- never may; of no other batch anything changes
-pub record Tells (batch : ℕ) (delivered : Bool) (judged next : Judgement) : Type 0 where
+pub record NoticeChanges (batch : ℕ) (delivered : Bool) (judged next : Judgement) : Type 0 where
   pub may : (birth : Birth) → next.may birth ≡ (judged.may birth || ((batch == birth.batch) && delivered))
   pub never : (birth : Birth) → next.never birth ≡ (judged.never birth || ((batch == birth.batch) && not delivered))
   pub first : (birth : Birth) → (birth.batch == batch) ≡ true → judged.never birth ≡ false

@@ -1,6 +1,6 @@
 -- What a source makes of the bytes that it takes.
 use Rattle.std.specs.Prelude.{◌≡◌, ◌≢◌, ◌<◌, ◌≤◌, ℕ, true, false, Bool, Option, Some, None, IfSome, unwrap_or, List, [], ◌∷◌, ◌++◌, ◌+◌, take, length, map, flat_map, Contains}
-use Rattle.vx_value.specs.Texts.{Word}
+use Rattle.vx_value.specs.Texts.{ByteString}
 use Rattle.vx_value.specs.declared.event.Event.{Event}
 use Rattle.vx_frame.specs.Frames.{Frame, frames, discarded}
 use Rattle.vx_frame.specs.Framings.{Framing, HasTaken, unfinished, lines_behind, overlong_behind, line_of}
@@ -9,14 +9,14 @@ use Rattle.vx_json.specs.declared.decoding.Decoding.{Decoding}
 use Rattle.vx_json.specs.LineEvents.{line_fields}
 use Rattle.vx_record.specs.Records.{capped}
 use Rattle.vx_record.specs.Reads.{event_with}
-use Rattle.vx_sourcecore.specs.NewLines.{AreTold}
+use Rattle.vx_sourcecore.specs.NewLines.{AreObserved}
 use Rattle.vx_sourcecore.specs.declared.source.Cut.{Cut}
 use Rattle.vx_sourcecore.specs.declared.source.SourceCore.{SourceCore}
 use Rattle.vx_sourcecore.specs.declared.source.Turned.{Turned}
 use Rattle.vx_sourcecore.specs.declared.source.Turned.TheVariants.{Lines, StreamEnded, AllEnded, Idle, Failed}
 
 -- the event that a line gives by a codec, with the type of its source and the path of the file that this reads, or none
-abbrev pub events_of_cut : Decoding → Word → Option Word → Line → List Event
+abbrev pub events_of_cut : Decoding → ByteString → Option ByteString → Line → List Event
 events_of_cut decoding source_type file line = event_with (line_fields decoding source_type file line.bytes)
 
 -- the end of the last of some lines
@@ -31,10 +31,10 @@ frame_of line = record { bytes = line.bytes; end = line.end }
 
 -- what was cut are these lines, beside so many that were too long: their events in order, the end of the last of them, whether or
 -- not it gave one, and their number
-pub record IsOf (decoding : Decoding) (source_type : Word) (file : Option Word) (lines : List Line) (over : ℕ) (cut : Cut) : Type 0 where
+pub record IsOf (decoding : Decoding) (source_type : ByteString) (file : Option ByteString) (lines : List Line) (over : ℕ) (cut : Cut) : Type 0 where
   pub each : cut.events ≡ flat_map (events_of_cut decoding source_type file) lines
   pub last : cut.end ≡ last_end lines
-  pub new : AreTold decoding (map frame_of lines) over cut.new
+  pub new : AreObserved decoding (map frame_of lines) over cut.new
 
 -- the lines that a stream's bytes, or its end, complete behind what it left unfinished
 abbrev pub new_lines : Framing → ℕ → Bool → List ℕ → List Frame
@@ -121,7 +121,7 @@ IsOfOpen ended (StreamEnded stream cut) = Contains ended stream → ⊥
 IsOfOpen ended other = Unit {0}
 
 -- a source at its beginning, for lines of some length, perhaps of a file, which it decodes in some way
-pub record IsFresh (limit : ℕ) (decoding : Decoding) (source_type : Word) (file : Option Word) (core : SourceCore) : Type 0 where
+pub record IsFresh (limit : ℕ) (decoding : Decoding) (source_type : ByteString) (file : Option ByteString) (core : SourceCore) : Type 0 where
   pub limit_is : core.framer.limit ≡ limit
   pub decoding_is : core.decoding ≡ decoding
   pub type_is : core.source_type ≡ source_type

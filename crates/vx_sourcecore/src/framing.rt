@@ -12,7 +12,7 @@ pub(crate) fn framed(
     bytes: &[u8],
 ) -> Option<(LineList, u64)>
     requires { framer.old.overlong ≡ 0 }
-    ensures told { framer.new.overlong ≡ 0 }
+    ensures observed { framer.new.overlong ≡ 0 }
     ensures framed { IfSome result
         (λ lines. HasFramed framer.old stream bytes.now lines.0 lines.1 framer.new) }
 {

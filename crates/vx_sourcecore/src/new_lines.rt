@@ -2,7 +2,7 @@ ghost use Rattle.std.specs.Prelude.{◌≡◌, ℕ, List, [], ◌∷◌, ◌++�
 ghost use Rattle.vx_frame.specs.Frames.{Frame};
 ghost use Rattle.vx_json.specs.declared.decoding.Decoding.{Decoding};
 ghost use Rattle.vx_record.specs.Records.{capped};
-ghost use Rattle.vx_sourcecore.specs.NewLines.{AreTold, IsToldOf};
+ghost use Rattle.vx_sourcecore.specs.NewLines.{AreObserved, IsObservedOf};
 
 /// The lines that one read of a source completes. Each count stands still at its type's end.
 #[derive(Clone, Copy, PartialEq, Eq, Debug)]
@@ -18,7 +18,7 @@ pub struct NewLines {
 impl NewLines {
     /// Those of a read that completes nothing.
     pub fn none() -> Self
-        ensures { (d : Decoding) → AreTold d [] 0 result }
+        ensures { (d : Decoding) → AreObserved d [] 0 result }
     {
         NewLines {
             lines: 0,
@@ -30,8 +30,8 @@ impl NewLines {
     /// Tells one line that was not too long: whether it is empty, and whether it gives an event.
     pub fn line(&mut self, empty: bool, gives: bool)
         ensures { (d : Decoding) → (given : List Frame) → (frame : Frame) → (over : ℕ) →
-            IsToldOf d frame empty gives → AreTold d given over self.old →
-            AreTold d (given ++ frame ∷ []) over self.new }
+            IsObservedOf d frame empty gives → AreObserved d given over self.old →
+            AreObserved d (given ++ frame ∷ []) over self.new }
     {
         self.lines = self.lines.saturating_add(1);
         if !empty && !gives {
@@ -42,7 +42,7 @@ impl NewLines {
     /// Tells how many lines were too long.
     pub fn too_long(&mut self, over: u64)
         ensures { (d : Decoding) → (given : List Frame) → (n : ℕ) → over ≡ capped n →
-            AreTold d given 0 self.old → AreTold d given n self.new }
+            AreObserved d given 0 self.old → AreObserved d given n self.new }
     {
         self.overlong = over;
     }

@@ -2,7 +2,7 @@ ghost use Rattle.std.specs.Prelude.{◌≡◌, ℕ, Bool, List, [], ◌∷◌, �
 ghost use Rattle.std.specs.Option.{option_copied};
 ghost use Rattle.vx_ends.specs.declared.position.Position.{Position};
 ghost use Rattle.vx_record.specs.Confirms.{Birth, is_delivered, moved_to};
-ghost use Rattle.vx_sourcecore.specs.Prefixes.{ends_of, birth_at, AreApart, IsCutOf, IsPrefixOf, Judgement, IsReadyFor, Tells, GoesOn, IsAskFor, IsPopped, IsHeld, passed_in, new_due, fails, kept_before, has_failed};
+ghost use Rattle.vx_sourcecore.specs.Prefixes.{ends_of, birth_at, AreApart, IsCutOf, IsPrefixOf, Judgement, IsReadyFor, NoticeChanges, GoesOn, IsAskFor, IsPopped, IsHeld, passed_in, new_due, fails, kept_before, has_failed};
 
 use crate::ends::Ends;
 use crate::positions::{moved, same};
@@ -50,7 +50,7 @@ pub struct Prefix {
 }
 
 impl Prefix {
-    /// What a source may confirm that bore nothing yet; its batches wait, or none does. It takes no memory.
+    /// What a source may confirm that created no batch yet; its batches wait, or none does. It takes no memory.
     pub fn new(alloc: Global, waits: bool) -> Self
         ensures waits { result.waits ≡ waits }
         ensures none { (judged : Judgement) → IsPrefixOf result judged [] [] }
@@ -113,7 +113,7 @@ impl Prefix {
     pub fn notice(&mut self, notice: Notice)
         ensures waits { self.new.waits ≡ self.old.waits }
         ensures noticed { (judged : Judgement) → (next : Judgement) → (births : List Birth) →
-            (asked : List Position) → Tells notice.batch (is_delivered notice.status) judged next →
+            (asked : List Position) → NoticeChanges notice.batch (is_delivered notice.status) judged next →
             AreApart births → IsPrefixOf self.old judged births asked →
             IsPrefixOf self.new next births asked }
     {

@@ -64,14 +64,14 @@ pub struct SourceCore {
     framer: Framer,
     last: Option<u64>,
     ghost roomy: { length room.items ≡ 65536 },
-    ghost told: { framer.overlong ≡ 0 },
+    ghost observed: { framer.overlong ≡ 0 },
 }
 
 impl SourceCore {
     ghost use Rattle.std.specs.Prelude.{◌≡◌, ℕ, ◌≤◌, List, length, take, true, unwrap_or, IfOk, OnErr, IfSome, IsTrue};
     ghost use Rattle.vx_sourcecore.specs.declared.source.SourceCore.{SourceCore};
     ghost use Rattle.vx_record.specs.Records.{Record, capped};
-    ghost use Rattle.vx_ends.specs.Told.{CountsBy, nothing};
+    ghost use Rattle.vx_ends.specs.Observation.{CountsBy, nothing};
     ghost use Rattle.vx_sourcecore.specs.Turns.{DidTake, IsUnmoved, IsInRoom, StartsAtMost, cut_of, turn_counts};
     ghost use Rattle.vx_sourcecore.specs.Sources.{IsOf, HasFed, HasFinished, HasBrought, BringsSome, IsOfOpen, IsSame, IsFresh, HasGathered};
     ghost use Rattle.vx_sourcecore.specs.Abreast.{IsAbreast, HasTurned, MayTurnOn};
@@ -106,17 +106,17 @@ impl SourceCore {
     /// Answers `Err` where the port finds no memory: then nothing moved, and the source is as it was. Where no memory is found to cut
     /// what was taken, the answer tells that without a `Cut`.
     pub fn turn<P: Port>(&mut self, port: &mut P) -> Result<Turned, WantOfMemory>
-        ensures did { IfOk result (λ turned. DidTake (P.told port.old) turned (P.told port.new)) }
+        ensures did { IfOk result (λ turned. DidTake (P.observed port.old) turned (P.observed port.new)) }
         ensures counts { IfOk result
-            (λ turned. CountsBy (turn_counts (P.told port.old).started turned) (P.told port.old)
-            (P.told port.new)) }
-        ensures unmoved { OnErr result (IsUnmoved (P.told port.old) (P.told port.new)) }
-        ensures uncounted { OnErr result (StartsAtMost (P.told port.old) (P.told port.new)) }
+            (λ turned. CountsBy (turn_counts (P.observed port.old).started turned) (P.observed port.old)
+            (P.observed port.new)) }
+        ensures unmoved { OnErr result (IsUnmoved (P.observed port.old) (P.observed port.new)) }
+        ensures uncounted { OnErr result (StartsAtMost (P.observed port.old) (P.observed port.new)) }
         ensures whole { IfOk result IsInRoom }
         ensures few { IfOk result
             (λ turned. IfSome (cut_of turned) (λ cut. length cut.events ≤ 65536)) }
         ensures turned { IfOk result
-            (λ turned. (h : Record) → (i : ℕ) → MayTurnOn h i (P.told port.old).ended →
+            (λ turned. (h : Record) → (i : ℕ) → MayTurnOn h i (P.observed port.old).ended →
             IsAbreast h i self.old → HasTurned h i self.new turned) }
         ensures stays { OnErr result
             ((h : Record) → (i : ℕ) → IsAbreast h i self.old → IsAbreast h i self.new) }
@@ -130,15 +130,15 @@ impl SourceCore {
 
     /// Makes one take of a port.
     fn take<P: Port>(&mut self, port: &mut P) -> Result<Turned, WantOfMemory>
-        requires { IsTrue (P.told port.old).started }
-        ensures did { IfOk result (λ turned. DidTake (P.told port.old) turned (P.told port.new)) }
+        requires { IsTrue (P.observed port.old).started }
+        ensures did { IfOk result (λ turned. DidTake (P.observed port.old) turned (P.observed port.new)) }
         ensures counts { IfOk result
-            (λ turned. CountsBy (turn_counts true turned) (P.told port.old) (P.told port.new)) }
-        ensures unmoved { OnErr result (IsUnmoved (P.told port.old) (P.told port.new)) }
-        ensures uncounted { OnErr result (CountsBy nothing (P.told port.old) (P.told port.new)) }
+            (λ turned. CountsBy (turn_counts true turned) (P.observed port.old) (P.observed port.new)) }
+        ensures unmoved { OnErr result (IsUnmoved (P.observed port.old) (P.observed port.new)) }
+        ensures uncounted { OnErr result (CountsBy nothing (P.observed port.old) (P.observed port.new)) }
         ensures whole { IfOk result IsInRoom }
         ensures some { IfOk result BringsSome }
-        ensures open { IfOk result (IsOfOpen (P.told port.old).ended) }
+        ensures open { IfOk result (IsOfOpen (P.observed port.old).ended) }
         ensures brings { IfOk result (λ turned. HasBrought self.old turned self.new) }
         ensures same { OnErr result (IsSame self.old self.new) }
     {

@@ -1,15 +1,15 @@
 -- The pieces of a text: bytes that stand for themselves, and the forms that begin with `$`.
 use Rattle.std.specs.Prelude.{ℕ, ◌+◌, zero, suc, Bool, false, ◌||◌, ◌&&◌, ◌==◌, List, [], ◌∷◌, length, if◌then◌else◌, drop, nat_le, nat_lt, take_while}
 use Rattle.std.specs.List.{prefix_len, position_or_len, before_first}
-use Rattle.vx_value.specs.Texts.{Word}
+use Rattle.vx_value.specs.Texts.{ByteString}
 
 -- a piece of a text
 pub data Piece : Type 0 where
   Plain : ℕ → Piece
   Dollar : Piece
-  Bare : Word → Piece
-  Braced : Word → Piece
-  WithDefault : Word → Word → Piece
+  Bare : ByteString → Piece
+  Braced : ByteString → Piece
+  WithDefault : ByteString → ByteString → Piece
 
 -- the codes of `$`, `{`, `}`, `:` and `-`
 abbrev pub dollar : ℕ
@@ -33,7 +33,7 @@ is_name_byte b =
     (nat_le 48 b && nat_le b 57) || (nat_le 65 b && nat_le b 90) || (nat_le 97 b && nat_le b 122) || (b == 95) || (b == 46)
 
 -- whether a text begins with a byte
-abbrev pub begins_with : ℕ → Word → Bool
+abbrev pub begins_with : ℕ → ByteString → Bool
 begins_with b [] = false
 begins_with b (c ∷ rest) = c == b
 
@@ -42,25 +42,25 @@ abbrev pub is_end_brace : ℕ → Bool
 is_end_brace b = b == end_brace
 
 -- `$` and a name; without a name `$` stands for itself
-unfoldable pub bare : Word → Piece
+unfoldable pub bare : ByteString → Piece
 bare [] = Plain dollar
 bare (b ∷ name) = Bare (b ∷ name)
 
 -- `${`, a name and `:-`, by what follows: a default up to the next `}`
-unfoldable pub with_default : Word → Word → Piece
+unfoldable pub with_default : ByteString → ByteString → Piece
 with_default name rest =
     if nat_lt (position_or_len is_end_brace rest) (length rest)
     then WithDefault name (before_first is_end_brace rest) else Plain dollar
 
 -- `${` and a name, by what follows
-unfoldable pub braced : Word → Word → Piece
+unfoldable pub braced : ByteString → ByteString → Piece
 braced [] rest = Plain dollar
 braced (b ∷ name) rest =
     if begins_with end_brace rest then Braced (b ∷ name)
     else (if begins_with colon rest && begins_with dash (drop 1 rest) then with_default (b ∷ name) (drop 2 rest) else Plain dollar)
 
 -- the piece that begins with a `$`, by what follows it
-unfoldable pub form_of : Word → Piece
+unfoldable pub form_of : ByteString → Piece
 form_of rest =
     if begins_with dollar rest then Dollar
     else (if begins_with brace rest
@@ -68,7 +68,7 @@ form_of rest =
     else bare (take_while is_name_byte rest))
 
 -- the piece that begins with a byte, by what follows it
-unfoldable pub piece_of : ℕ → Word → Piece
+unfoldable pub piece_of : ℕ → ByteString → Piece
 piece_of b rest = if b == dollar then form_of rest else Plain b
 
 -- how many bytes a piece has behind its first
@@ -85,12 +85,12 @@ pub record Placed : Type 0 where
   pub piece : Piece
 
 -- the pieces of a text that begins at a place, where its first bytes, as many as said, end the piece before
-unfoldable pub pieces_after : ℕ → ℕ → Word → List Placed
+unfoldable pub pieces_after : ℕ → ℕ → ByteString → List Placed
 pieces_after skip at [] = []
 pieces_after zero at (b ∷ rest) =
     record { at = at; piece = piece_of b rest } ∷ pieces_after (behind (piece_of b rest)) (at + 1) rest
 pieces_after (suc skip) at (b ∷ rest) = pieces_after skip (at + 1) rest
 
 -- the pieces of a text
-abbrev pub pieces : Word → List Placed
+abbrev pub pieces : ByteString → List Placed
 pieces text = pieces_after 0 0 text

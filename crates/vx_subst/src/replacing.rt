@@ -4,7 +4,7 @@ ghost use Rattle.vx_value.specs.Texts.{same_text};
 ghost use Rattle.vx_subst.specs.Environment.{value_of};
 ghost use Rattle.vx_subst.specs.Pieces.{behind, form_of, pieces_after};
 ghost use Rattle.vx_subst.specs.Replaced.{becomes, lacks, name_in, replaced, first_lacking, or_default};
-ghost use Rattle.vx_subst.specs.Faults.{TellsFirst, TellsLack, TellsOf};
+ghost use Rattle.vx_subst.specs.Faults.{ReportsFirst, ReportsLack, ReportsOf};
 ghost use Rattle.vx_subst.specs.Views.{piece_view};
 
 use crate::form::{Form, Found, form_of, unclosed_len};
@@ -24,7 +24,7 @@ use vx_value::{Text, Variable, VariableList};
 pub fn replace(alloc: Global, text: &str, environment: &VariableList) -> Result<Text, SubstFault>
     ensures replaced { IfOk result (λ new. new ≡ replaced environment.now text.now) }
     ensures whole { OnOk result (first_lacking environment.now text.now ≡ None) }
-    ensures missing { IfErr result (TellsFirst environment.now text.now) }
+    ensures missing { IfErr result (ReportsFirst environment.now text.now) }
 {
     let mut out = String::new(alloc);
     let unclosed = unclosed_len(text);
@@ -76,7 +76,7 @@ fn push_value(
         ++ unwrap_or (value_of environment.now name.now) []) }
     ensures whole { OnOk result (is_none (value_of environment.now name.now) ≡ false) }
     ensures missing { IfErr result
-        (TellsLack (is_none (value_of environment.now name.now)) name.now at) }
+        (ReportsLack (is_none (value_of environment.now name.now)) name.now at) }
 {
     match value_of(environment, name) {
         Some(value) => push(out, value),
@@ -121,7 +121,7 @@ fn push_form(
         ++ becomes environment.now (piece_view form.entry)) }
     ensures whole { OnOk result (lacks environment.now (piece_view form.entry) ≡ false) }
     ensures missing { IfErr result
-        (TellsLack (lacks environment.now (piece_view form.entry))
+        (ReportsLack (lacks environment.now (piece_view form.entry))
         (name_in (piece_view form.entry)) at) }
 {
     match form {
@@ -135,7 +135,7 @@ fn push_form(
 
 /// The fault of a missing variable.
 fn missing(alloc: Global, name: &str, at: u64) -> SubstFault
-    ensures { TellsOf name.now at result }
+    ensures { ReportsOf name.now at result }
 {
     match Text::copy_of(alloc, name) {
         Ok(name) => SubstFault::MissingVariable { name, at },

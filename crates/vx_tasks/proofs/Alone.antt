@@ -1,7 +1,7 @@
 -- Instances that need no port, and what they do.
 use Rattle.std.proofs.Common.{◌≡◌, ℕ, ◌-◌, ◌<◌, Bool, true, false, List, [], Option, Some, None, IfSome, refl, sym, ap, subst, ◌∙◌}
 use Rattle.std.specs.Prelude.{IsSomeAnd, map, min}
-use Rattle.vx_value.specs.Texts.{Word}
+use Rattle.vx_value.specs.Texts.{ByteString}
 use Rattle.vx_value.specs.declared.event.Event.{Event}
 use Rattle.vx_json.specs.declared.codec.Codec.{Codec}
 use Rattle.vx_demo.specs.declared.demo_settings.DemoSettings.{DemoSettings}
@@ -16,7 +16,7 @@ use Rattle.vx_record.specs.Installs.{component_of, device_at}
 use Rattle.vx_record.specs.Encoding.{bytes_for, encoded}
 use Rattle.vx_record.specs.Generating.{generator_of, lines_given, lines_at_once, lines_from, IsGenerated, IsNextOf}
 use Rattle.vx_record.specs.Parcels.{parcel_event}
-use Rattle.vx_sourcecore.specs.Lines.{is_swallowing}
+use Rattle.vx_sourcecore.specs.Lines.{is_blackhole}
 use Rattle.vx_sourcecore.specs.declared.source.Turned.{Turned}
 use Rattle.vx_sourcecore.specs.declared.source.Turned.TheVariants as turned
 use Rattle.vx_sourcecore.specs.Generators.{IsMade, IsNext}
@@ -24,7 +24,7 @@ use Rattle.vx_sourcecore.specs.Turns.{Reading, reading_of}
 use Rattle.vx_tasks.specs.Out.{IsReadable}
 use Rattle.vx_tasks.specs.declared.task.Role.{Role}
 use Rattle.vx_tasks.specs.declared.task.Role.TheVariants as role
-use Rattle.vx_tasks.specs.Home.{HasCome}
+use Rattle.vx_tasks.specs.Unleased.{HasCome}
 use Rattle.vx_tasks.specs.Jobs.{IsPortedAs}
 
 -- WHO HAS A PORT
@@ -34,14 +34,14 @@ writes_device (settings.Console target how sink) codec is = refl
 writes_device (settings.FileOut path compression how sink) codec is = refl
 writes_device other codec is = cc
 
--- and what swallows has none, and no codec
-swallows_device : (s : Settings) → is_swallowing s ≡ true → has_device s ≡ false
-swallows_device (settings.Blackhole seconds sink) is = refl
-swallows_device other is = cc
+-- and a black hole has none, and no codec
+blackhole_device : (s : Settings) → is_blackhole s ≡ true → has_device s ≡ false
+blackhole_device (settings.Blackhole seconds sink) is = refl
+blackhole_device other is = cc
 
-swallows_bytes : (s : Settings) (events : List Event) → is_swallowing s ≡ true → bytes_for s events ≡ []
-swallows_bytes (settings.Blackhole seconds sink) events is = refl
-swallows_bytes other events is = cc
+blackhole_bytes : (s : Settings) (events : List Event) → is_blackhole s ≡ true → bytes_for s events ≡ []
+blackhole_bytes (settings.Blackhole seconds sink) events is = refl
+blackhole_bytes other events is = cc
 
 by_component : (o : Option Component) (P : Component → Type 0) (b : Bool) → ((c : Component) → P c → has_device c.settings ≡ b) → IsSomeAnd o P →
     (elim o [ None ↦ false | Some c ↦ has_device c.settings ]) ≡ b
@@ -54,19 +54,19 @@ come_ported h i (role.Generator generator) come = come.1
 come_ported h i (role.Sink codec) come =
     by_component (component_of h i) (λ (c : Component). encoding c.settings ≡ Some codec) true (λ c is. writes_device c.settings codec is) come
 come_ported h i role.Blackhole come =
-    by_component (component_of h i) (λ (c : Component). is_swallowing c.settings ≡ true) false (λ c is. swallows_device c.settings is) come
+    by_component (component_of h i) (λ (c : Component). is_blackhole c.settings ≡ true) false (λ c is. blackhole_device c.settings is) come
 come_ported h i (role.Transform picker) come = tt
 come_ported h i role.Merge come = tt
 come_ported h i role.Unfit come = tt
 
 -- a black hole writes nothing
-pub swallows_all : (h : Record) (i : ℕ) (parcels : List (List ℕ)) → IsSomeAnd (component_of h i) (λ (c : Component). is_swallowing c.settings ≡ true) → encoded h i parcels ≡ []
-swallows_all h i parcels is = go (component_of h i) is
+pub blackhole_all : (h : Record) (i : ℕ) (parcels : List (List ℕ)) → IsSomeAnd (component_of h i) (λ (c : Component). is_blackhole c.settings ≡ true) → encoded h i parcels ≡ []
+blackhole_all h i parcels is = go (component_of h i) is
   where
-    go : (o : Option Component) → IsSomeAnd o (λ (c : Component). is_swallowing c.settings ≡ true) →
-        ◌≡◌ {A = Word} (elim o [ None ↦ [] | Some c ↦ bytes_for c.settings (map (parcel_event h) parcels) ]) []
+    go : (o : Option Component) → IsSomeAnd o (λ (c : Component). is_blackhole c.settings ≡ true) →
+        ◌≡◌ {A = ByteString} (elim o [ None ↦ [] | Some c ↦ bytes_for c.settings (map (parcel_event h) parcels) ]) []
     go None is = absurd is
-    go (Some c) is = swallows_bytes c.settings (map (parcel_event h) parcels) is
+    go (Some c) is = blackhole_bytes c.settings (map (parcel_event h) parcels) is
 
 -- WHAT A SOURCE MAY GIVE
 -- what has a port makes no lines

@@ -19,7 +19,7 @@ use Rattle.vx_record.specs.Judges.{parcels_given}
 use Rattle.vx_record.specs.Transforms.{answered_events}
 use Rattle.vx_record.proofs.Answers.{inputs_parted}
 use Rattle.vx_tasks.specs.declared.task.Role.{Role}
-use Rattle.vx_tasks.specs.Home.{StandsAt, HasKept}
+use Rattle.vx_tasks.specs.Unleased.{StandsAt, HasKept}
 use Rattle.vx_tasks.proofs.Given.{AllCame}
 
 -- an entry is no Answer of the instance

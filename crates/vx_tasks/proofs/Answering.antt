@@ -6,7 +6,7 @@ use Rattle.std.proofs.lemmas.Bool.Decides.{nat_tests}
 use Rattle.std.proofs.lemmas.List.{reverse-append, length-map}
 use Rattle.std.proofs.lemmas.Nat.{pow_pos}
 use Rattle.vx_value.specs.declared.event.Event.{Event}
-use Rattle.vx_ends.specs.Told.{Told}
+use Rattle.vx_ends.specs.Observation.{Observation}
 use Rattle.vx_ledger.specs.Copies.{numbers_of}
 use Rattle.vx_ledger.specs.declared.parcel.Parcel.{Parcel}
 use Rattle.vx_condition.specs.Steps.{Step, comes, events_of}
@@ -36,7 +36,7 @@ use Rattle.vx_tasks.specs.declared.task.Role.{Role}
 use Rattle.vx_tasks.specs.Doing.{events_in}
 use Rattle.vx_tasks.specs.Judging.{put_out_on, refused_on, AreDistinct}
 use Rattle.vx_record.specs.declared.entry.Entry.TheVariants.{Answer}
-use Rattle.vx_tasks.specs.Home.{StandsAt, HasKept}
+use Rattle.vx_tasks.specs.Unleased.{StandsAt, HasKept}
 use Rattle.vx_tasks.specs.Laws.{JudgeIs, EachJudged, HeldDistinct, AnswersNow, AnswerKept}
 use Rattle.vx_tasks.specs.Out.{IsHeld, is_unfit, leaves_unfit, picked_ports, HasJudged, HasActed, HasDone}
 use Rattle.vx_tasks.proofs.Dividing.{noted_on}
@@ -194,33 +194,33 @@ module _ (h : Record) (i : ℕ) (does : Role) (ports : List ℕ) (parcels : List
         (subst (λ (os : List Output). MayAnswer h i os gone []) so.0 may)
 
 -- THE LAWS
-module _ {P : Type 0} (told_by : P → Told) (h : Record) (landing : Landing P) (ports : List ℕ) (back : HasDone told_by h landing)
+module _ {P : Type 0} (observe : P → Observation) (h : Record) (landing : Landing P) (ports : List ℕ) (back : HasDone observe h landing)
     (is : landing.done ≡ Judged ports) where
   came_judged : HasJudged h landing.instance landing.task.role ports
-  came_judged = subst (λ (d : Done). HasActed (told_by landing.task.port) h landing.instance landing.task.role d) is back.acted
+  came_judged = subst (λ (d : Done). HasActed (observe landing.task.port) h landing.instance landing.task.role d) is back.acted
 
   came_fit : is_unfit landing.task.role ≡ false
   came_fit = back.fit ∙ ap leaves_unfit is
 
-pub judge_is : {P : Type 0} (told_by : P → Told) → JudgeIs told_by
-judge_is told_by h landing ports legal back is =
-    judge_here h landing.instance landing.task.role ports landing.held.items legal (came_fit told_by h landing ports back is) back.held
-    (came_judged told_by h landing ports back is)
+pub judge_is : {P : Type 0} (observe : P → Observation) → JudgeIs observe
+judge_is observe h landing ports legal back is =
+    judge_here h landing.instance landing.task.role ports landing.held.items legal (came_fit observe h landing ports back is) back.held
+    (came_judged observe h landing ports back is)
 
-pub each_judged : {P : Type 0} (told_by : P → Told) → EachJudged told_by
-each_judged told_by h landing ports legal run back is =
-    length_here h landing.instance landing.task.role ports landing.held.items legal (came_fit told_by h landing ports back is) back.held
-    (came_judged told_by h landing ports back is) run
+pub each_judged : {P : Type 0} (observe : P → Observation) → EachJudged observe
+each_judged observe h landing ports legal run back is =
+    length_here h landing.instance landing.task.role ports landing.held.items legal (came_fit observe h landing ports back is) back.held
+    (came_judged observe h landing ports back is) run
 
-pub held_distinct : {P : Type 0} (told_by : P → Told) → HeldDistinct told_by
-held_distinct told_by h landing legal back = distinct_there h landing.instance landing.held.items legal back.held
+pub held_distinct : {P : Type 0} (observe : P → Observation) → HeldDistinct observe
+held_distinct observe h landing legal back = distinct_there h landing.instance landing.held.items legal back.held
 
-pub answers_now : {P : Type 0} (told_by : P → Told) → AnswersNow told_by
-answers_now told_by h landing ports legal run back is =
-    answer_here h landing.instance landing.task.role ports landing.held.items legal (came_fit told_by h landing ports back is) back.held
-    (came_judged told_by h landing ports back is) run (out_to_worker h landing.instance ∙ ap is_some back.out)
+pub answers_now : {P : Type 0} (observe : P → Observation) → AnswersNow observe
+answers_now observe h landing ports legal run back is =
+    answer_here h landing.instance landing.task.role ports landing.held.items legal (came_fit observe h landing ports back is) back.held
+    (came_judged observe h landing ports back is) run (out_to_worker h landing.instance ∙ ap is_some back.out)
 
-pub answer_kept : {P : Type 0} (told_by : P → Told) → AnswerKept told_by
-answer_kept told_by h landing ports legal run back is =
-    kept_here h landing.instance landing.task.role ports landing.held.items legal (came_fit told_by h landing ports back is) back.held
-    (came_judged told_by h landing ports back is) run
+pub answer_kept : {P : Type 0} (observe : P → Observation) → AnswerKept observe
+answer_kept observe h landing ports legal run back is =
+    kept_here h landing.instance landing.task.role ports landing.held.items legal (came_fit observe h landing ports back is) back.held
+    (came_judged observe h landing ports back is) run

@@ -13,7 +13,7 @@ use Rattle.vx_record.specs.Places.{Place}
 use Rattle.vx_record.specs.Places.Place.{Contents, Held}
 use Rattle.vx_record.specs.Parcels.{first_copy}
 use Rattle.vx_record.specs.Turns.{lease_now}
-use Rattle.vx_record.specs.Installs.{component_of, told}
+use Rattle.vx_record.specs.Installs.{component_of, component_or}
 use Rattle.vx_record.specs.Lists.{stands, parcels_at, contents, held, buffered, is_stage_of}
 use Rattle.vx_record.specs.Shifts.{shift, at}
 use Rattle.vx_record.specs.Routing.{drains, all_dry, is_named, is_ending}
@@ -26,9 +26,9 @@ use Rattle.vx_record.specs.Additions.{OnlyAdds}
 use Rattle.vx_record.proofs.Adding.{carry_legal, adds_legal}
 use Rattle.vx_record.proofs.OnePlace.{conserved}
 use Rattle.vx_record.proofs.Shifting.{entry_shifts}
-use Rattle.vx_record.proofs.Senders.{uninstalled, same_told, wired_same}
+use Rattle.vx_record.proofs.Senders.{uninstalled, same_component_or, wired_same}
 use Rattle.vx_record.proofs.Turning.{turn_undry}
-use Rattle.vx_record.proofs.Vacant.{bears, enters, where_none, none_where, unentered}
+use Rattle.vx_record.proofs.Vacant.{creates, enters, where_none, none_where, unentered}
 use Rattle.vx_record.proofs.WorkerEnds.{worker_source, source_dry, all_dry_on, unnamed_on, unawaited, dry_by, undrained}
 use Rattle.vx_record.proofs.OwnTurns.{moment_own}
 use Rattle.vx_record.proofs.OwnPlaces.{held_own}
@@ -40,7 +40,7 @@ use Rattle.vx_tasks.proofs.Staying.{stays}
 -- THE LAST BATCH
 -- what can't get another parcel: its buffer is empty, and nobody sends to it any more
 record IsLast (h : Record) (i : ℕ) : Type 0 where
-  worker : told false (λ (c : Component). not (is_source c)) h i ≡ true
+  worker : component_or false (λ (c : Component). not (is_source c)) h i ≡ true
   dry : all_dry h ≡ true
   unnamed : is_named h i ≡ false
   buffer : (s : ℕ) → contents h i s ≡ []
@@ -59,7 +59,7 @@ last_of h i legal last unread = record {
 }
   where
     w : Bool
-    w = told false (λ (c : Component). not (is_source c)) h i
+    w = component_or false (λ (c : Component). not (is_source c)) h i
 
     parts : ((w && (drains h i || all_dry h)) ≡ true) × (not (is_named h i) ≡ true)
     parts = and_parts (w && (drains h i || all_dry h)) (not (is_named h i)) ((and_parts (is_ending h i) (is_empty (buffered h i)) last).0)
@@ -70,8 +70,8 @@ last_of h i legal last unread = record {
 of_last : (h : Record) (i : ℕ) → IsLast h i → is_last_batch h i ≡ true
 of_last h i last =
     and_from (is_ending h i) (is_empty (buffered h i))
-    (and_from (told false (λ (c : Component). not (is_source c)) h i && (drains h i || all_dry h)) (not (is_named h i))
-    (and_from (told false (λ (c : Component). not (is_source c)) h i) (drains h i || all_dry h) last.worker (or_right (drains h i) (all_dry h) last.dry))
+    (and_from (component_or false (λ (c : Component). not (is_source c)) h i && (drains h i || all_dry h)) (not (is_named h i))
+    (and_from (component_or false (λ (c : Component). not (is_source c)) h i) (drains h i || all_dry h) last.worker (or_right (drains h i) (all_dry h) last.dry))
     (not_from_false (is_named h i) last.unnamed))
     (none_where (is_stage_of i) (stands h) stage)
   where
@@ -79,12 +79,12 @@ of_last h i last =
     stage (Contents j s) is = subst (λ (k : ℕ). parcels_at (Contents k s) (stands h) ≡ []) (sym (eqb-true j i is)) (last.buffer s)
     stage p is = cc
 
--- nobody bears behind what is no Read
+-- nobody creates a batch behind what is no Read
 unread_yield : (h : Record) (j : ℕ) (y : Yield) → yield h j ≡ Some y → IsUnread h → ⊥
 unread_yield (Read k stream took ∷ h) j y is unread = unread
 unread_yield h j y is unread = absurd cc
 
-unborn : (h : Record) (e : Entry) → IsLegal (e ∷ h) → IsUnread h → (j : ℕ) → bears j e ≡ false
+unborn : (h : Record) (e : Entry) → IsLegal (e ∷ h) → IsUnread h → (j : ℕ) → creates j e ≡ false
 unborn h (Born k b place copies events waits stream end) legal unread j = absurd (unread_yield h k _ legal.0.row.yields unread)
 unborn h e legal unread j = refl
 
@@ -108,7 +108,7 @@ last_on i h e legal spares last =
     let off = unborn h e legal last.unread in
     let outside = unentered h e i (conserved (e ∷ h) legal) (λ j. unawaited h j i legal.1 last.unnamed) in
     record {
-      worker = same_told false (λ (c : Component). not (is_source c)) (e ∷ h) h i (wired_same e h i kept) ∙ last.worker;
+      worker = same_component_or false (λ (c : Component). not (is_source c)) (e ∷ h) h i (wired_same e h i kept) ∙ last.worker;
       dry = all_dry_on h e legal kept last.dry;
       unnamed = unnamed_on h e i legal kept off last.unnamed;
       buffer = λ s. entry_shifts h e (Contents i s) legal ∙ stage_apart e i s (contents h i s) spares outside ∙ last.buffer s;
@@ -119,8 +119,8 @@ last_stays : (old new : Record) (i : ℕ) → OnlyAdds (Spares i) old new → Is
 last_stays old new i adds legal last = carry_legal (Spares i) (λ h. IsLast h i) (λ h e follows spares was. last_on i h e follows spares was) old new adds legal last
 
 -- ITS OWN
-pub told_by : {X : Type 0} (none : X) (f : Component → X) (new old : Record) (i : ℕ) → component_of new i ≡ component_of old i → told none f new i ≡ told none f old i
-told_by none f new old i same = ap (λ (o : Option Component). elim o [ None ↦ none | Some c ↦ f c ]) same
+pub observe : {X : Type 0} (none : X) (f : Component → X) (new old : Record) (i : ℕ) → component_of new i ≡ component_of old i → component_or none f new i ≡ component_or none f old i
+observe none f new old i same = ap (λ (o : Option Component). elim o [ None ↦ none | Some c ↦ f c ]) same
 
 module _ (old new : Record) (i : ℕ) (same : mine new i ≡ mine old i) (run : component_of new i ≡ component_of old i) (now : IsLegal new) (legal : IsLegal old) where
   held_is : held new i ≡ held old i
@@ -131,8 +131,8 @@ module _ (old new : Record) (i : ℕ) (same : mine new i ≡ mine old i) (run : 
 
   full_is : is_full_batch new i ≡ is_full_batch old i
   full_is =
-      ap (λ ps. told false (λ (c : Component). nat_le (batch_max_events c.settings) (length ps)) new i) held_is
-      ∙ told_by false (λ (c : Component). nat_le (batch_max_events c.settings) (length (held old i))) new old i run
+      ap (λ ps. component_or false (λ (c : Component). nat_le (batch_max_events c.settings) (length ps)) new i) held_is
+      ∙ observe false (λ (c : Component). nat_le (batch_max_events c.settings) (length (held old i))) new old i run
 
   taken_is : taken_at new i (oldest_held new i) ≡ taken_at old i (oldest_held old i)
   taken_is = ap (taken_at new i) oldest_is ∙ stays (λ h k. taken_at h k (oldest_held old i)) (taken_own (oldest_held old i)) old new i same
@@ -142,9 +142,9 @@ module _ (old new : Record) (i : ℕ) (same : mine new i ≡ mine old i) (run : 
 
   timed_is : is_timed_out new i (lease_now new i) ≡ is_timed_out old i (lease_now old i)
   timed_is =
-      ap (λ t. told false (λ (c : Component). nat_le (capped (t + batch_timeout c.settings)) (lease_now new i)) new i) taken_is
-      ∙ ap (λ t. told false (λ (c : Component). nat_le (capped (taken_at old i (oldest_held old i) + batch_timeout c.settings)) t) new i) moment_is
-      ∙ told_by false (λ (c : Component). nat_le (capped (taken_at old i (oldest_held old i) + batch_timeout c.settings)) (lease_now old i)) new old i run
+      ap (λ t. component_or false (λ (c : Component). nat_le (capped (t + batch_timeout c.settings)) (lease_now new i)) new i) taken_is
+      ∙ ap (λ t. component_or false (λ (c : Component). nat_le (capped (taken_at old i (oldest_held old i) + batch_timeout c.settings)) t) new i) moment_is
+      ∙ observe false (λ (c : Component). nat_le (capped (taken_at old i (oldest_held old i) + batch_timeout c.settings)) (lease_now old i)) new old i run
 
   tried_is : was_attempted new i ≡ was_attempted old i
   tried_is =
@@ -164,7 +164,7 @@ module _ (old new : Record) (i : ℕ) (same : mine new i ≡ mine old i) (run : 
       ap (λ x. if failures_with new i x == 0 then 0 else capped (failed_at new i x + wait_after new i (failures_with new i x))) oldest_is
       ∙ ap (λ n. if n == 0 then 0 else capped (failed_at new i c + wait_after new i n)) (stays (λ h k. failures_with h k c) (failures_own c) old new i same)
       ∙ ap (λ n. if failures_with old i c == 0 then 0 else capped (n + wait_after new i (failures_with old i c))) (stays (λ h k. failed_at h k c) (failed_own c) old new i same)
-      ∙ ap (λ n. if failures_with old i c == 0 then 0 else capped (failed_at old i c + n)) (told_by 0 (λ (d : Component). retry_wait d.settings (failures_with old i c)) new old i run)
+      ∙ ap (λ n. if failures_with old i c == 0 then 0 else capped (failed_at old i c + n)) (observe 0 (λ (d : Component). retry_wait d.settings (failures_with old i c)) new old i run)
 
 -- CLOSED
 closed_by : (e f t l a : Bool) → (not e && (f || t || l || a)) ≡ true → ((f || t || a) ≡ true) ⊎ (l ≡ true)
@@ -201,7 +201,7 @@ closed_stays h i unread closed =
 
 pub attempt_stays : (old new : Record) (i : ℕ) → mine new i ≡ mine old i → component_of new i ≡ component_of old i → OnlyAdds (Spares i) old new → IsLegal old → MayAttemptNow old i → MayAttemptNow new i
 attempt_stays old new i same run adds legal may = record {
-  sink = told_by false _ new old i run ∙ may.sink;
+  sink = observe false _ new old i run ∙ may.sink;
   batch_closed = elim still [
     | inl alone ↦ alone_closes (is_empty (held new i)) (is_full_batch new i) (is_timed_out new i (lease_now new i)) (is_last_batch new i) (was_attempted new i) some alone
     | inr last ↦ last_closes (is_empty (held new i)) (is_full_batch new i) (is_timed_out new i (lease_now new i)) (is_last_batch new i) (was_attempted new i) some last.0

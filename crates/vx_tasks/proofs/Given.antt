@@ -26,7 +26,7 @@ use Rattle.vx_record.specs.Judges.{judge_at, parcels_given}
 use Rattle.vx_record.proofs.Counts.{count-append}
 use Rattle.vx_record.proofs.Changes.{NoneEmpty, none_empty}
 use Rattle.vx_record.proofs.Events.{said_before}
-use Rattle.vx_record.proofs.Hands.{not_there}
+use Rattle.vx_record.proofs.HeldCopies.{not_there}
 use Rattle.vx_record.proofs.Judges.{held_is_given}
 use Rattle.vx_record.proofs.OnePlace.{conserved}
 use Rattle.vx_record.proofs.Shifting.{stands_at}

@@ -1,9 +1,9 @@
--- Who comes home from judging, and by which rule it judges.
+-- Who comes back from judging, and by which rule it judges.
 use Rattle.std.proofs.Common.{◌≡◌, ℕ, Bool, true, false, List, [], ◌∷◌, Option, Some, None, refl, subst}
 use Rattle.std.specs.Prelude.{◌&&◌, IsSomeAnd, find, if◌then◌else◌}
 use Rattle.std.specs.List.{list_all}
 use Rattle.std.proofs.lemmas.Bool.{and_parts, and_from}
-use Rattle.vx_value.specs.Texts.{Word, same_text}
+use Rattle.vx_value.specs.Texts.{ByteString, same_text}
 use Rattle.vx_json.specs.declared.codec.Codec.{Codec}
 use Rattle.vx_json.specs.declared.decoding.Decoding.{Decoding}
 use Rattle.vx_condition.specs.Steps.{Test}
@@ -29,10 +29,10 @@ use Rattle.vx_record.proofs.Judged.{judge_rule}
 use Rattle.vx_sourcecore.specs.Abreast.{IsMadeFor}
 use Rattle.vx_sourcecore.specs.declared.source.SourceCore.{SourceCore}
 use Rattle.vx_sourcecore.specs.declared.generator.Generator.{Generator}
-use Rattle.vx_sourcecore.specs.Lines.{is_swallowing}
+use Rattle.vx_sourcecore.specs.Lines.{is_blackhole}
 use Rattle.vx_tasks.specs.declared.task.Role.{Role}
 use Rattle.vx_tasks.specs.declared.task.Role.TheVariants as role
-use Rattle.vx_tasks.specs.Home.{HasCome}
+use Rattle.vx_tasks.specs.Unleased.{HasCome}
 use Rattle.vx_tasks.specs.Out.{is_unfit}
 
 -- THE CLASS OF A COMPONENT
@@ -58,7 +58,7 @@ fits : (h : Record) (i : ℕ) (c : Component) → IsLegal h → component_of h i
 fits [] i c legal runs = cc
 fits (Install version plan once instances now ∷ h) i c legal runs = go (name_at instances i) runs (fits h i c legal.1)
   where
-    go : (o : Option Word) →
+    go : (o : Option ByteString) →
         run_by (elim o [ None ↦ wiring h i | Some name ↦ Some (record { plan = plan; once = once; instances = instances; name = name }) ]) ≡ Some c →
         (component_of h i ≡ Some c → fits_class c ≡ true) → fits_class c ≡ true
     go None is before = before is
@@ -91,10 +91,10 @@ encodes_none (settings.Console target how sink) codec of is = cc
 encodes_none (settings.FileOut path compression how sink) codec of is = cc
 encodes_none other codec of is = cc
 
--- nor swallows it
-swallows_none : (s : Settings) → settings_class s ≡ Transform → is_swallowing s ≡ true → ⊥
-swallows_none (settings.Blackhole seconds sink) of is = cc
-swallows_none other of is = cc
+-- nor is it a black hole
+blackhole_none : (s : Settings) → settings_class s ≡ Transform → is_blackhole s ≡ true → ⊥
+blackhole_none (settings.Blackhole seconds sink) of is = cc
+blackhole_none other of is = cc
 
 -- and one that picks judges
 picker_judges : (s : Settings) (picker : Picker) → Picks s picker → is_judging s ≡ true
@@ -133,8 +133,8 @@ module _ (h : Record) (i : ℕ) (legal : IsLegal h) (transform : transform_at h 
   no_generator generator is =
       refutes (λ (c : Component). IsMadeFor c.settings generator.core) (λ c of made. decodes_none c.settings generator.core.decoding of made.decoding_is) is.0.abreast.made_for
 
-  pub no_hole : HasCome h i role.Blackhole → ⊥
-  no_hole is = refutes (λ (c : Component). is_swallowing c.settings ≡ true) (λ c of swallows. swallows_none c.settings of swallows) is
+  pub no_blackhole : HasCome h i role.Blackhole → ⊥
+  no_blackhole is = refutes (λ (c : Component). is_blackhole c.settings ≡ true) (λ c of blackhole. blackhole_none c.settings of blackhole) is
 
   pub no_sink : (codec : Codec) → HasCome h i (role.Sink codec) → ⊥
   no_sink codec is =
@@ -144,7 +144,7 @@ module _ (h : Record) (i : ℕ) (legal : IsLegal h) (transform : transform_at h 
   come_judges (role.Source core) fit is = absurd (no_source core is)
   come_judges (role.Generator generator) fit is = absurd (no_generator generator is)
   come_judges (role.Sink codec) fit is = absurd (no_sink codec is)
-  come_judges role.Blackhole fit is = absurd (no_hole is)
+  come_judges role.Blackhole fit is = absurd (no_blackhole is)
   come_judges (role.Transform picker) fit is =
       judges_by (λ (c : Component). Picks c.settings picker) (λ c of picks. picker_judges c.settings picker picks) is
   come_judges role.Merge fit is = cc

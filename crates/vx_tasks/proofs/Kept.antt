@@ -3,7 +3,7 @@ use Rattle.std.proofs.Common.{◌≡◌, ℕ, Bool, true, false, List, [], ◌�
 use Rattle.std.specs.Prelude.{◌≢◌, ◌&&◌, ◌==◌, IfSome, IsSomeAnd, map, nat_lt, if◌then◌else◌}
 use Rattle.std.specs.List.{list_any}
 use Rattle.vx_value.specs.declared.event.Event.{Event}
-use Rattle.vx_ends.specs.Told.{Told}
+use Rattle.vx_ends.specs.Observation.{Observation}
 use Rattle.vx_ends.specs.declared.position.Position.{Position}
 use Rattle.vx_ledger.specs.declared.parcel.Parcel.{Parcel}
 use Rattle.vx_plan.specs.declared.component.Component.{Component}
@@ -42,7 +42,7 @@ use Rattle.vx_sourcecore.specs.declared.source.Turned.TheVariants as turned
 use Rattle.vx_pick.specs.Picks.{Picks, AreMeant}
 use Rattle.vx_sourcecore.proofs.Keeping.{wiring_kept, abreast_kept, turned_kept}
 use Rattle.vx_sourcecore.proofs.MakingKept.{generating_kept, made_kept}
-use Rattle.vx_sourcecore.specs.Lines.{is_swallowing}
+use Rattle.vx_sourcecore.specs.Lines.{is_blackhole}
 use Rattle.vx_sourcecore.specs.Turns.{Reading, reading_of}
 use Rattle.vx_places.specs.Numbers.{numbers}
 use Rattle.vx_tasks.specs.declared.confirming.Confirmed.{Confirmed}
@@ -52,14 +52,14 @@ use Rattle.vx_tasks.specs.declared.task.Role.{Role}
 use Rattle.vx_tasks.specs.declared.task.Role.TheVariants as role
 use Rattle.vx_tasks.specs.declared.work.Job.{Job}
 use Rattle.vx_tasks.specs.declared.work.Job.TheVariants as job
-use Rattle.vx_tasks.specs.Telling.{IsTold, GoesBeyond}
+use Rattle.vx_tasks.specs.Observing.{IsObserved, GoesBeyond}
 use Rattle.vx_tasks.specs.Joining.{is_joining, joins_at}
-use Rattle.vx_tasks.specs.Home.{HasCome, StandsAt, HasKept}
-use Rattle.vx_tasks.specs.Out.{IsReadable, IsIdle, IsHeld, MayAttemptNow, MayReadNow, MayCloseNow, MayJudgeNow, IsGiven, AreJudged, AreDue, turn_entry, deeds, confirm_entries, IsConfirmedSo, IsKeptBy, TellsDone, HasRoleTurned, HasActed, events_held, picked_ports}
+use Rattle.vx_tasks.specs.Unleased.{HasCome, StandsAt, HasKept}
+use Rattle.vx_tasks.specs.Out.{IsReadable, IsIdle, IsHeld, MayAttemptNow, MayReadNow, MayCloseNow, MayJudgeNow, IsGiven, AreJudged, AreDue, turn_entry, work_entries, confirm_entries, IsConfirmedSo, IsKeptBy, ReportsDone, HasRoleTurned, HasActed, events_held, picked_ports}
 use Rattle.vx_tasks.specs.Laws.{LeftKept, DoneKept}
-use Rattle.vx_tasks.proofs.Staying.{stays, runs, wired_runs, device_is, told_same, held_stays}
+use Rattle.vx_tasks.proofs.Staying.{stays, runs, wired_runs, device_is, observed_same, held_stays}
 use Rattle.vx_tasks.proofs.Alone.{generated_same}
-use Rattle.vx_tasks.proofs.Closing.{told_by, attempt_stays}
+use Rattle.vx_tasks.proofs.Closing.{observe, attempt_stays}
 use Rattle.vx_tasks.proofs.Writing.{events_said}
 use Rattle.vx_tasks.proofs.Answered.{answered_stays}
 use Rattle.vx_tasks.proofs.Discarding.{discards_later}
@@ -80,16 +80,16 @@ turn_same old new i (turned.Failed at_start) same =
     ap (λ n. if at_start && nat_lt n 4 then entry.Idle i true else entry.SourceLost i (capped (bytes_taken new i)) at_start) (stays failed_starts starts_own old new i same)
     ∙ ap (λ n. if at_start && nat_lt (failed_starts old i) 4 then entry.Idle i true else entry.SourceLost i (capped n) at_start) (stays bytes_taken bytes_own old new i same)
 
-deeds_same : (old new : Record) (i : ℕ) (parcels : List Parcel) (d : Done) → mine new i ≡ mine old i → deeds new i parcels d ≡ deeds old i parcels d
-deeds_same old new i parcels done.Nothing same = refl
-deeds_same old new i parcels (done.Read turned) same = ap (λ (e : Entry). e ∷ []) (turn_same old new i turned same)
-deeds_same old new i parcels (done.Attempted all sent answer) same = refl
-deeds_same old new i parcels (done.Judged ports) same = refl
-deeds_same old new i parcels done.Closed same = refl
-deeds_same old new i parcels done.Short same = refl
-deeds_same old new i parcels done.Starved same = refl
+work_entries_same : (old new : Record) (i : ℕ) (parcels : List Parcel) (d : Done) → mine new i ≡ mine old i → work_entries new i parcels d ≡ work_entries old i parcels d
+work_entries_same old new i parcels done.Nothing same = refl
+work_entries_same old new i parcels (done.Read turned) same = ap (λ (e : Entry). e ∷ []) (turn_same old new i turned same)
+work_entries_same old new i parcels (done.Attempted all sent answer) same = refl
+work_entries_same old new i parcels (done.Judged ports) same = refl
+work_entries_same old new i parcels done.Closed same = refl
+work_entries_same old new i parcels done.OutOfMemory same = refl
+work_entries_same old new i parcels done.Starved same = refl
 
--- and no deed installs anything
+-- and none of these entries installs anything
 turn_wired : (h : Record) (i : ℕ) (turned : Turned) → wiring (turn_entry h i turned ∷ h) i ≡ wiring h i
 turn_wired h i (turned.Lines stream n room cut) = refl
 turn_wired h i (turned.StreamEnded stream cut) = refl
@@ -101,41 +101,41 @@ turn_wired h i (turned.Failed at_start) = go (at_start && nat_lt (failed_starts 
     go true = refl
     go false = refl
 
-deeds_wired : (h : Record) (i : ℕ) (parcels : List Parcel) (d : Done) → wiring (deeds h i parcels d ++ h) i ≡ wiring h i
-deeds_wired h i parcels done.Nothing = refl
-deeds_wired h i parcels (done.Read turned) = turn_wired h i turned
-deeds_wired h i parcels (done.Attempted all sent answer) = refl
-deeds_wired h i parcels (done.Judged ports) = refl
-deeds_wired h i parcels done.Closed = refl
-deeds_wired h i parcels done.Short = refl
-deeds_wired h i parcels done.Starved = refl
+work_entries_wired : (h : Record) (i : ℕ) (parcels : List Parcel) (d : Done) → wiring (work_entries h i parcels d ++ h) i ≡ wiring h i
+work_entries_wired h i parcels done.Nothing = refl
+work_entries_wired h i parcels (done.Read turned) = turn_wired h i turned
+work_entries_wired h i parcels (done.Attempted all sent answer) = refl
+work_entries_wired h i parcels (done.Judged ports) = refl
+work_entries_wired h i parcels done.Closed = refl
+work_entries_wired h i parcels done.OutOfMemory = refl
+work_entries_wired h i parcels done.Starved = refl
 
 confirm_wired : (h : Record) (i : ℕ) (confirmed : Option Confirmed) → wiring (confirm_entries i confirmed ++ h) i ≡ wiring h i
 confirm_wired h i None = refl
 confirm_wired h i (Some c) = refl
 
 -- so a port that tells what one of them will have tells what the other will
-module _ (told : Told) (old new : Record) (i : ℕ) (same : mine new i ≡ mine old i) (wired : wiring new i ≡ wiring old i) where
-  deeds_told : (parcels : List Parcel) (d : Done) → IsTold told (deeds old i parcels d ++ old) i → IsTold told (deeds new i parcels d ++ new) i
-  deeds_told parcels d is =
-      told_same told (deeds old i parcels d ++ old) (deeds new i parcels d ++ new) i
-      (ap (λ (es : List Entry). mine (es ++ new) i) (deeds_same old new i parcels d same) ∙ mine_behind (deeds old i parcels d) old new i same)
-      (deeds_wired new i parcels d ∙ wired ∙ sym (deeds_wired old i parcels d))
+module _ (observed : Observation) (old new : Record) (i : ℕ) (same : mine new i ≡ mine old i) (wired : wiring new i ≡ wiring old i) where
+  work_entries_observed : (parcels : List Parcel) (d : Done) → IsObserved observed (work_entries old i parcels d ++ old) i → IsObserved observed (work_entries new i parcels d ++ new) i
+  work_entries_observed parcels d is =
+      observed_same observed (work_entries old i parcels d ++ old) (work_entries new i parcels d ++ new) i
+      (ap (λ (es : List Entry). mine (es ++ new) i) (work_entries_same old new i parcels d same) ∙ mine_behind (work_entries old i parcels d) old new i same)
+      (work_entries_wired new i parcels d ∙ wired ∙ sym (work_entries_wired old i parcels d))
       is
 
-  tells_same : (parcels : List Parcel) (d : Done) → TellsDone told old i parcels d → TellsDone told new i parcels d
-  tells_same parcels done.Nothing is = deeds_told parcels done.Nothing is
-  tells_same parcels (done.Read turned) is = deeds_told parcels (done.Read turned) is
-  tells_same parcels (done.Attempted all sent answer) is = deeds_told parcels (done.Attempted all sent answer) is
-  tells_same parcels (done.Judged ports) is = deeds_told parcels (done.Judged ports) is
-  tells_same parcels done.Closed is = deeds_told parcels done.Closed is
-  tells_same parcels done.Short is = deeds_told parcels done.Short is
-  tells_same parcels done.Starved is = told_same (record told { given = None }) old new i same wired is
+  reports_same : (parcels : List Parcel) (d : Done) → ReportsDone observed old i parcels d → ReportsDone observed new i parcels d
+  reports_same parcels done.Nothing is = work_entries_observed parcels done.Nothing is
+  reports_same parcels (done.Read turned) is = work_entries_observed parcels (done.Read turned) is
+  reports_same parcels (done.Attempted all sent answer) is = work_entries_observed parcels (done.Attempted all sent answer) is
+  reports_same parcels (done.Judged ports) is = work_entries_observed parcels (done.Judged ports) is
+  reports_same parcels done.Closed is = work_entries_observed parcels done.Closed is
+  reports_same parcels done.OutOfMemory is = work_entries_observed parcels done.OutOfMemory is
+  reports_same parcels done.Starved is = observed_same (record observed { given = None }) old new i same wired is
 
-tells_behind : (told : Told) (old new : Record) (i : ℕ) → mine new i ≡ mine old i → wiring new i ≡ wiring old i → (confirmed : Option Confirmed) (parcels : List Parcel) (d : Done) →
-    TellsDone told (confirm_entries i confirmed ++ old) i parcels d → TellsDone told (confirm_entries i confirmed ++ new) i parcels d
-tells_behind told old new i same wired confirmed parcels d is =
-    tells_same told (confirm_entries i confirmed ++ old) (confirm_entries i confirmed ++ new) i
+reports_behind : (observed : Observation) (old new : Record) (i : ℕ) → mine new i ≡ mine old i → wiring new i ≡ wiring old i → (confirmed : Option Confirmed) (parcels : List Parcel) (d : Done) →
+    ReportsDone observed (confirm_entries i confirmed ++ old) i parcels d → ReportsDone observed (confirm_entries i confirmed ++ new) i parcels d
+reports_behind observed old new i same wired confirmed parcels d is =
+    reports_same observed (confirm_entries i confirmed ++ old) (confirm_entries i confirmed ++ new) i
     (mine_behind (confirm_entries i confirmed) old new i same)
     (confirm_wired new i confirmed ∙ wired ∙ sym (confirm_wired old i confirmed))
     parcels d is
@@ -158,7 +158,7 @@ module _ (old new : Record) (i worker : ℕ) (legal : IsLegal old) (adds : OnlyA
   moment = stays lease_now moment_own old new i same
 
   source : source_at new i ≡ source_at old i
-  source = told_by false is_source new old i run
+  source = observe false is_source new old i run
 
   out_kept : out_to new i ≡ Some worker
   out_kept = stays out_to worker_own old new i same ∙ out
@@ -175,12 +175,12 @@ module _ (old new : Record) (i worker : ℕ) (legal : IsLegal old) (adds : OnlyA
   ported = device_is new old i run
 
   joins_kept : joins_at new i ≡ joins_at old i
-  joins_kept = told_by false (λ (c : Component). is_transform c && is_joining c.settings) new old i run
+  joins_kept = observe false (λ (c : Component). is_transform c && is_joining c.settings) new old i run
 
   come_kept : (r : Role) → HasCome old i r → HasCome new i r
   come_kept (role.Source core) is = (abreast_kept old new i core adds is.0, ported ∙ is.1)
   come_kept (role.Generator generator) is = (generating_kept old new i generator adds is.0, ported ∙ is.1)
-  come_kept role.Blackhole is = subst (λ (o : Option Component). IsSomeAnd o (λ (c : Component). is_swallowing c.settings ≡ true)) (sym run) is
+  come_kept role.Blackhole is = subst (λ (o : Option Component). IsSomeAnd o (λ (c : Component). is_blackhole c.settings ≡ true)) (sym run) is
   come_kept (role.Sink codec) is = subst (λ (o : Option Component). IsSomeAnd o (λ (c : Component). encoding c.settings ≡ Some codec)) (sym run) is
   come_kept (role.Transform picker) is = subst (λ (o : Option Component). IsSomeAnd o (λ (c : Component). Picks c.settings picker)) (sym run) is
   come_kept role.Merge is = joins_kept ∙ is
@@ -212,13 +212,13 @@ module _ (old new : Record) (i worker : ℕ) (legal : IsLegal old) (adds : OnlyA
 
   judge_kept : MayJudgeNow old i → MayJudgeNow new i
   judge_kept may = record {
-    transform = told_by false is_transform new old i run ∙ may.transform;
+    transform = observe false is_transform new old i run ∙ may.transform;
     took = stays took_since took_own old new i same ∙ may.took;
     settled = settled_kept may.settled;
   }
 
   untaken_kept : owes_answer old i ≡ false → owes_answer new i ≡ false
-  untaken_kept is = ap (λ (b : Bool). b && took_since new i) (told_by false is_transform new old i run) ∙ ap (λ (b : Bool). transform_at old i && b) (stays took_since took_own old new i same) ∙ is
+  untaken_kept is = ap (λ (b : Bool). b && took_since new i) (observe false is_transform new old i run) ∙ ap (λ (b : Bool). transform_at old i && b) (stays took_since took_own old new i same) ∙ is
 
   given_kept : (wanted : Job) → IsGiven old i wanted → IsGiven new i wanted
   given_kept job.Read is = read_kept is
@@ -237,14 +237,14 @@ module _ (old new : Record) (i worker : ℕ) (legal : IsLegal old) (adds : OnlyA
   so_kept (done.Attempted all sent answer) None is = undue_kept is
   so_kept (done.Judged ports) None is = undue_kept is
   so_kept done.Closed None is = undue_kept is
-  so_kept done.Short None is = tt
+  so_kept done.OutOfMemory None is = tt
   so_kept done.Starved None is = undue_kept is
   so_kept done.Nothing (Some c) is = due_kept (Some c.positions) is
   so_kept (done.Read turned) (Some c) is = due_kept (Some c.positions) is
   so_kept (done.Attempted all sent answer) (Some c) is = due_kept (Some c.positions) is
   so_kept (done.Judged ports) (Some c) is = due_kept (Some c.positions) is
   so_kept done.Closed (Some c) is = due_kept (Some c.positions) is
-  so_kept done.Short (Some c) is = due_kept (Some c.positions) is
+  so_kept done.OutOfMemory (Some c) is = due_kept (Some c.positions) is
   so_kept done.Starved (Some c) is = due_kept (Some c.positions) is
 
   -- what was done
@@ -267,13 +267,13 @@ module _ (old new : Record) (i worker : ℕ) (legal : IsLegal old) (adds : OnlyA
           IfSome o (λ (reading : Reading). IsGenerated new i reading.stream reading.took)
       go None is = is
       go (Some reading) is = generated_same old new i reading.stream reading.took
-          (told_by None (λ (c : Component). demo_of c.settings) new old i run) given_lines
-          (told_by 0 (λ (c : Component). if reading_interval c.settings == 0 then 64 else 1) new old i run) is
+          (observe None (λ (c : Component). demo_of c.settings) new old i run) given_lines
+          (observe 0 (λ (c : Component). if reading_interval c.settings == 0 then 64 else 1) new old i run) is
 
   encoded_kept : (parcels : List Parcel) → IsHeld old i parcels → IsHeld new i parcels → encoded new i (at new (Held i)) ≡ encoded old i (at old (Held i))
   encoded_kept parcels was is =
       ap (encoded new i) (sym is.held)
-      ∙ told_by [] (λ (c : Component). bytes_for c.settings (map (parcel_event new) (numbers parcels))) new old i run
+      ∙ observe [] (λ (c : Component). bytes_for c.settings (map (parcel_event new) (numbers parcels))) new old i run
       ∙ ap (λ (events : List Event). elim (component_of old i) [ None ↦ [] | Some c ↦ bytes_for c.settings events ]) (events_said new parcels is.known is.filled ∙ sym (events_said old parcels was.known was.filled))
       ∙ ap (encoded old i) was.held
 
@@ -306,7 +306,7 @@ module _ (old new : Record) (i worker : ℕ) (legal : IsLegal old) (adds : OnlyA
   by_kept r (done.Attempted all sent answer) is = stands_kept r is
   by_kept r (done.Judged ports) is = tt
   by_kept r done.Closed is = stands_kept r is
-  by_kept r done.Short is = tt
+  by_kept r done.OutOfMemory is = tt
   by_kept r done.Starved is = stands_kept r is
 
   meant_kept : (parcels : List Parcel) → IsHeld old i parcels → IsHeld new i parcels → (at old (Held i) ≢ [] → IsSomeAnd (component_of old i) (λ (c : Component). AreMeant (conditions_of c.settings))) →
@@ -314,9 +314,9 @@ module _ (old new : Record) (i worker : ℕ) (legal : IsLegal old) (adds : OnlyA
   meant_kept parcels was now meant some =
       subst (λ (o : Option Component). IsSomeAnd o (λ (c : Component). AreMeant (conditions_of c.settings))) (sym run) (meant (λ none. some (sym now.held ∙ was.held ∙ none)))
 
-  acted_kept : (told : Told) (r : Role) (parcels : List Parcel) (d : Done) → IsHeld old i parcels → IsHeld new i parcels → HasActed told old i r d → HasActed told new i r d
-  acted_kept told r parcels done.Nothing was now is = come_kept r is
-  acted_kept told r parcels (done.Read turned) was now is = record {
+  acted_kept : (observed : Observation) (r : Role) (parcels : List Parcel) (d : Done) → IsHeld old i parcels → IsHeld new i parcels → HasActed observed old i r d → HasActed observed new i r d
+  acted_kept observed r parcels done.Nothing was now is = come_kept r is
+  acted_kept observed r parcels (done.Read turned) was now is = record {
     may = read_kept is.may;
     come = turned_role_kept r turned is.come;
     ported = λ none. ported ∙ is.ported none;
@@ -325,41 +325,41 @@ module _ (old new : Record) (i worker : ℕ) (legal : IsLegal old) (adds : OnlyA
     few = is.few;
     fit = is.fit;
   }
-  acted_kept told r parcels (done.Attempted all sent answer) was now is = record {
+  acted_kept observed r parcels (done.Attempted all sent answer) was now is = record {
     may = attempt_kept is.may;
     come = come_kept r is.come;
     whole = is.whole ∙ sym (encoded_kept parcels was now);
     within = is.within;
     ok = is.ok;
-    swallowed = λ none. is.swallowed (sym ported ∙ none);
+    blackhole_ok = λ none. is.blackhole_ok (sym ported ∙ none);
   }
-  acted_kept told r parcels (done.Judged ports) was now is = record {
+  acted_kept observed r parcels (done.Judged ports) was now is = record {
     may = judge_kept is.may;
     come = come_kept r is.come;
     judged = judged_kept parcels ports was now is.judged;
     kept = behind_kept r parcels was now is.kept;
     meant = meant_kept parcels was now is.meant;
   }
-  acted_kept told r parcels done.Closed was now is = record { may = close_kept is.may; come = come_kept r is.come; shut = is.shut }
-  acted_kept told r parcels done.Short was now is = come_kept r is
-  acted_kept told r parcels done.Starved was now is = record {
+  acted_kept observed r parcels done.Closed was now is = record { may = close_kept is.may; come = come_kept r is.come; shut = is.shut }
+  acted_kept observed r parcels done.OutOfMemory was now is = come_kept r is
+  acted_kept observed r parcels done.Starved was now is = record {
     may = attempt_kept is.may;
     come = come_kept r is.come;
-    beyond = subst (λ (w : List ℕ). GoesBeyond told.given w (encoded new i (at new (Held i)))) (sym (stays given given_own old new i same))
-        (subst (λ (w : List ℕ). GoesBeyond told.given (given old i) w) (sym (encoded_kept parcels was now)) is.beyond);
+    beyond = subst (λ (w : List ℕ). GoesBeyond observed.given w (encoded new i (at new (Held i)))) (sym (stays given given_own old new i same))
+        (subst (λ (w : List ℕ). GoesBeyond observed.given (given old i) w) (sym (encoded_kept parcels was now)) is.beyond);
     shut = is.shut;
   }
 
-pub left_kept : {P : Type 0} (told : P → Told) → LeftKept told
-left_kept told old new work legal adds left =
+pub left_kept : {P : Type 0} (observed : P → Observation) → LeftKept observed
+left_kept observed old new work legal adds left =
     let i = work.instance in
     let w = work.worker in
     record {
       out = out_kept old new i w legal adds left.out;
       idle = idle_kept old new i w legal adds left.out left.idle;
-      home = record {
-        told = told_same (told work.task.port) old new i (same old new i w legal adds left.out) (wired old new i w legal adds left.out) left.home.told;
-        come = come_kept old new i w legal adds left.out work.task.role left.home.come;
+      unleased = record {
+        observed = observed_same (observed work.task.port) old new i (same old new i w legal adds left.out) (wired old new i w legal adds left.out) left.unleased.observed;
+        come = come_kept old new i w legal adds left.out work.task.role left.unleased.come;
       };
       kept = stands_kept old new i w legal adds left.out work.task.role left.kept;
       held = held_stays work.held.items old new i adds legal left.held;
@@ -371,8 +371,8 @@ left_kept told old new work legal adds left =
       alone = joins_kept old new i w legal adds left.out ∙ left.alone;
     }
 
-pub done_kept : {P : Type 0} (told : P → Told) → DoneKept told
-done_kept told old new landing legal adds back =
+pub done_kept : {P : Type 0} (observed : P → Observation) → DoneKept observed
+done_kept observed old new landing legal adds back =
     let i = landing.instance in
     let w = landing.worker in
     let now = held_stays landing.held.items old new i adds legal back.held in
@@ -381,8 +381,8 @@ done_kept told old new landing legal adds back =
       idle = idle_kept old new i w legal adds back.out back.idle;
       held = now;
       confirmed = so_kept old new i w legal adds back.out landing.done landing.confirmed back.confirmed;
-      told = tells_behind (told landing.task.port) old new i (same old new i w legal adds back.out) (wired old new i w legal adds back.out) landing.confirmed landing.held.items landing.done back.told;
-      acted = acted_kept old new i w legal adds back.out (told landing.task.port) landing.task.role landing.held.items landing.done back.held now back.acted;
+      observed = reports_behind (observed landing.task.port) old new i (same old new i w legal adds back.out) (wired old new i w legal adds back.out) landing.confirmed landing.held.items landing.done back.observed;
+      acted = acted_kept old new i w legal adds back.out (observed landing.task.port) landing.task.role landing.held.items landing.done back.held now back.acted;
       kept = by_kept old new i w legal adds back.out landing.task.role landing.done back.kept;
       settled = settled_kept old new i w legal adds back.out back.settled;
       untaken = λ no. untaken_kept old new i w legal adds back.out (back.untaken no);

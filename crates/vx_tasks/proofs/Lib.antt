@@ -1,5 +1,5 @@
 pub mod Tallying
-pub mod Telling
+pub mod Observing
 pub mod Writing
 pub mod Saying
 pub mod Doing

@@ -4,7 +4,7 @@ use Rattle.std.specs.Prelude.{◌==◌, is_some, if◌then◌else◌}
 use Rattle.std.proofs.lemmas.Bool.{eqb-true}
 use Rattle.std.proofs.lemmas.Bool.Decides.{nat_tests}
 use Rattle.vx_value.specs.declared.event.Event.{Event}
-use Rattle.vx_ends.specs.Told.{Told, Fits}
+use Rattle.vx_ends.specs.Observation.{Observation, Fits}
 use Rattle.vx_ends.specs.declared.position.Position.{Position}
 use Rattle.vx_ledger.specs.Copies.{Copy}
 use Rattle.vx_ledger.specs.declared.parcel.Parcel.{Parcel}
@@ -31,7 +31,7 @@ use Rattle.vx_record.specs.Makers.{Spares}
 use Rattle.vx_record.specs.Additions.{OnlyAdds}
 use Rattle.vx_record.proofs.Adding.{carry_legal}
 use Rattle.vx_record.proofs.Events.{said_before}
-use Rattle.vx_record.proofs.Hands.{not_there}
+use Rattle.vx_record.proofs.HeldCopies.{not_there}
 use Rattle.vx_record.proofs.OnePlace.{conserved}
 use Rattle.vx_record.proofs.Shifting.{stands_at}
 use Rattle.vx_record.proofs.Promises.{leased_runs}
@@ -41,7 +41,7 @@ use Rattle.vx_record.proofs.OwnConfirms.{confirmed_own, given_own}
 use Rattle.vx_record.proofs.OwnCounts.{faults_own, refusals_own, idles_own, finishes_own, confirms_own}
 use Rattle.vx_places.specs.Holding.{IsKnown}
 use Rattle.vx_places.proofs.Steps.{among_counts, event_stays as unanswered, known_later}
-use Rattle.vx_tasks.specs.Telling.{IsTold, HasCounted, of_port, spec_by}
+use Rattle.vx_tasks.specs.Observing.{IsObserved, HasCounted, of_port, spec_by}
 use Rattle.vx_tasks.specs.Out.{IsHeld}
 
 -- what is a task's own stays with its entries
@@ -81,19 +81,19 @@ of_port_stays none f own old new i same run =
     ap (λ (b : Bool). if b then f new i else none) (device_is new old i run)
     ∙ ap (λ (x : _). if device_at old i then x else none) (stays f own old new i same)
 
-pub told_same : (told : Told) (old new : Record) (i : ℕ) → mine new i ≡ mine old i → wiring new i ≡ wiring old i → IsTold told old i → IsTold told new i
-told_same told old new i same wired is = record {
-  taken = λ stream. subst (λ (w : List ℕ). IfSome (told.taken stream) (λ bytes. bytes ≡ w)) (sym (of_port_stays [] (λ h k. taken h k stream) (taken_own stream) old new i same run)) (is.taken stream);
-  given = subst (λ (w : List ℕ). IfSome told.given (λ bytes. bytes ≡ w)) (sym (stays given given_own old new i same)) is.given;
-  spec = subst (λ (o : Option Wiring). Fits (spec_by o) told.spec) (sym wired) is.spec;
-  confirmed = subst (λ (ps : List Position). IfSome told.confirmed (λ positions. positions ≡ ps)) (sym (stays confirmed confirmed_own old new i same)) is.confirmed;
+pub observed_same : (observed : Observation) (old new : Record) (i : ℕ) → mine new i ≡ mine old i → wiring new i ≡ wiring old i → IsObserved observed old i → IsObserved observed new i
+observed_same observed old new i same wired is = record {
+  taken = λ stream. subst (λ (w : List ℕ). IfSome (observed.taken stream) (λ bytes. bytes ≡ w)) (sym (of_port_stays [] (λ h k. taken h k stream) (taken_own stream) old new i same run)) (is.taken stream);
+  given = subst (λ (w : List ℕ). IfSome observed.given (λ bytes. bytes ≡ w)) (sym (stays given given_own old new i same)) is.given;
+  spec = subst (λ (o : Option Wiring). Fits (spec_by o) observed.spec) (sym wired) is.spec;
+  confirmed = subst (λ (ps : List Position). IfSome observed.confirmed (λ positions. positions ≡ ps)) (sym (stays confirmed confirmed_own old new i same)) is.confirmed;
   ended = is.ended ∙ sym (stays ended_streams ended_own old new i same);
   over = λ device over. is.over (sym (device_is new old i run) ∙ device) (sym (stays all_ended end_own old new i same) ∙ over);
-  faults = subst (λ (n : ℕ). HasCounted told.exact n told.faults) (sym (stays fault_count faults_own old new i same)) is.faults;
-  refusals = subst (λ (n : ℕ). HasCounted told.exact n told.refusals) (sym (stays refusal_count refusals_own old new i same)) is.refusals;
-  idles = subst (λ (n : ℕ). HasCounted told.exact n told.idles) (sym (stays idle_count idles_own old new i same)) is.idles;
-  finishes = subst (λ (n : ℕ). HasCounted told.exact n told.finishes) (sym (of_port_stays 0 finish_count finishes_own old new i same run)) is.finishes;
-  confirms = subst (λ (n : ℕ). HasCounted told.exact n told.confirms) (sym (stays confirm_count confirms_own old new i same)) is.confirms;
+  faults = subst (λ (n : ℕ). HasCounted observed.exact n observed.faults) (sym (stays fault_count faults_own old new i same)) is.faults;
+  refusals = subst (λ (n : ℕ). HasCounted observed.exact n observed.refusals) (sym (stays refusal_count refusals_own old new i same)) is.refusals;
+  idles = subst (λ (n : ℕ). HasCounted observed.exact n observed.idles) (sym (stays idle_count idles_own old new i same)) is.idles;
+  finishes = subst (λ (n : ℕ). HasCounted observed.exact n observed.finishes) (sym (of_port_stays 0 finish_count finishes_own old new i same run)) is.finishes;
+  confirms = subst (λ (n : ℕ). HasCounted observed.exact n observed.confirms) (sym (stays confirm_count confirms_own old new i same)) is.confirms;
 }
   where
     run : component_of new i ≡ component_of old i

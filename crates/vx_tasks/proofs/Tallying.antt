@@ -1,7 +1,7 @@
 -- What the parts of an attempt count together.
 use Rattle.std.proofs.Common.{◌≡◌, ◌∙◌, inl, inr, ◌≤◌, ℕ, Bool, true, false, Some, refl, sym, ap, subst, arith}
 use Rattle.std.specs.Prelude.{◌≢◌, not, ◌||◌, Result, Ok, Err, is_ok}
-use Rattle.vx_ends.specs.Told.{Told, Rose, Happened, Counts, CountsBy, nothing, raised, is_failed, is_refused}
+use Rattle.vx_ends.specs.Observation.{Observation, Rose, Happened, Counts, CountsBy, nothing, raised, is_failed, is_refused}
 use Rattle.vx_ends.specs.declared.trouble.Trouble.{Trouble}
 use Rattle.vx_ends.specs.declared.trouble.Trouble.TheVariants.{Failed, Refused, WantOfMemory}
 use Rattle.vx_ends.proofs.Counted.{rose_later}
@@ -38,7 +38,7 @@ counts_before e f x y z b same one two = record {
     rose_on (inr last) less = inr last
 
 -- so does what is counted behind nothing, and before nothing
-pub behind_nothing : (what : Happened) (old mid new : Told) → CountsBy nothing old mid → CountsBy what mid new → CountsBy what old new
+pub behind_nothing : (what : Happened) (old mid new : Observation) → CountsBy nothing old mid → CountsBy what mid new → CountsBy what old new
 behind_nothing what old mid new one two = record {
   faults = counts_after old.exact mid.exact old.faults mid.faults new.faults what.failed one.exact one.faults two.faults;
   refusals = counts_after old.exact mid.exact old.refusals mid.refusals new.refusals what.refused one.exact one.refusals two.refusals;
@@ -49,7 +49,7 @@ behind_nothing what old mid new one two = record {
   exact = two.exact ∙ one.exact;
 }
 
-pub before_nothing : (what : Happened) (old mid new : Told) → CountsBy what old mid → CountsBy nothing mid new → CountsBy what old new
+pub before_nothing : (what : Happened) (old mid new : Observation) → CountsBy what old mid → CountsBy nothing mid new → CountsBy what old new
 before_nothing what old mid new one two = record {
   faults = counts_before old.exact mid.exact old.faults mid.faults new.faults what.failed one.exact one.faults two.faults;
   refusals = counts_before old.exact mid.exact old.refusals mid.refusals new.refusals what.refused one.exact one.refusals two.refusals;
@@ -61,12 +61,12 @@ before_nothing what old mid new one two = record {
 }
 
 -- a give had trouble
-pub give_counts : (t : Trouble) (old new : Told) → CountsBy (record nothing { failed = is_failed {T = ℕ} (Err t); refused = is_refused {T = ℕ} (Err t) }) old new → CountsBy (trouble_counts (Some t)) old new
+pub give_counts : (t : Trouble) (old new : Observation) → CountsBy (record nothing { failed = is_failed {T = ℕ} (Err t); refused = is_refused {T = ℕ} (Err t) }) old new → CountsBy (trouble_counts (Some t)) old new
 give_counts Failed old new counts = counts
 give_counts Refused old new counts = counts
 give_counts WantOfMemory old new counts = counts
 
-pub gave_counts : (t : Trouble) (old new : Told) → CountsBy (trouble_counts (Some t)) old new → CountsBy (sent_counts {T = Unit {0}} (Err t)) old new
+pub gave_counts : (t : Trouble) (old new : Observation) → CountsBy (trouble_counts (Some t)) old new → CountsBy (sent_counts {T = Unit {0}} (Err t)) old new
 gave_counts Failed old new counts = counts
 gave_counts Refused old new counts = counts
 gave_counts WantOfMemory old new counts = counts
@@ -75,7 +75,7 @@ gave_counts WantOfMemory old new counts = counts
 abbrev pub all_counts : Bool → Result (Unit {0}) Trouble → Happened
 all_counts started answer = record nothing { started = started; failed = is_failed answer; refused = is_refused answer; finished = is_ok answer }
 
-pub record CountsSent (old new : Told) (answer : Result (Unit {0}) Trouble) : Type 0 where
+pub record CountsSent (old new : Observation) (answer : Result (Unit {0}) Trouble) : Type 0 where
   pub started : Bool
   pub first : started ≡ true → old.started ≡ false
   pub known : (is_ok answer || is_refused answer) ≡ true → started ≡ not old.started
@@ -85,7 +85,7 @@ off : (was : Bool) → not was ≡ true → was ≡ false
 off true is = cc
 off false is = refl
 
-pub sent_behind : (old mid new : Told) (answer : Result (Unit {0}) Trouble) → CountsBy (record nothing { started = not old.started }) old mid → CountsBy (sent_counts answer) mid new → CountsSent old new answer
+pub sent_behind : (old mid new : Observation) (answer : Result (Unit {0}) Trouble) → CountsBy (record nothing { started = not old.started }) old mid → CountsBy (sent_counts answer) mid new → CountsSent old new answer
 sent_behind old mid new answer one two = record {
   started = not old.started;
   first = off old.started;
@@ -102,36 +102,36 @@ sent_behind old mid new answer one two = record {
 }
 
 -- no start
-pub sent_none : (old new : Told) (t : Trouble) → ◌≢◌ {A = Result (Unit {0}) Trouble} (Err t) (Err Refused) → CountsBy (record nothing { failed = is_failed {T = Unit {0}} (Err t) }) old new → CountsSent old new (Err t)
+pub sent_none : (old new : Observation) (t : Trouble) → ◌≢◌ {A = Result (Unit {0}) Trouble} (Err t) (Err Refused) → CountsBy (record nothing { failed = is_failed {T = Unit {0}} (Err t) }) old new → CountsSent old new (Err t)
 sent_none old new Failed un counts = record { started = false; first = λ is. cc; known = λ is. cc; counts = counts }
 sent_none old new WantOfMemory un counts = record { started = false; first = λ is. cc; known = λ is. cc; counts = counts }
 sent_none old new Refused un counts = absurd (un refl)
 
 -- what the reply to that counts, and what is counted where the port is closed behind it
-pub replied_ok : (old new : Told) (sent : ℕ) → CountsSent old new (Ok tt) → CountsReply old new (record { sent = sent; reply = reply.Ok })
+pub replied_ok : (old new : Observation) (sent : ℕ) → CountsSent old new (Ok tt) → CountsReply old new (record { sent = sent; reply = reply.Ok })
 replied_ok old new sent is = record { started = is.started; first = is.first; known = λ other. is.known refl; counts = is.counts }
 
-pub replied_refused : (old new : Told) (sent : ℕ) → CountsSent old new (Err Refused) → CountsReply old new (record { sent = sent; reply = reply.Refused })
+pub replied_refused : (old new : Observation) (sent : ℕ) → CountsSent old new (Err Refused) → CountsReply old new (record { sent = sent; reply = reply.Refused })
 replied_refused old new sent is = record { started = is.started; first = is.first; known = λ other. is.known refl; counts = is.counts }
 
-pub replied_failed : (old mid new : Told) (sent : ℕ) → CountsSent old mid (Err Failed) → CountsBy nothing mid new → CountsReply old new (record { sent = sent; reply = reply.Failed })
+pub replied_failed : (old mid new : Observation) (sent : ℕ) → CountsSent old mid (Err Failed) → CountsBy nothing mid new → CountsReply old new (record { sent = sent; reply = reply.Failed })
 replied_failed old mid new sent is closed =
     record { started = is.started; first = is.first; known = λ other. absurd (other refl); counts = before_nothing (reply_counts is.started reply.Failed) old mid new is.counts closed }
 
-pub replied_none : (old mid new : Told) → CountsSent old mid (Err WantOfMemory) → CountsBy nothing mid new → StartsAtMost old new
+pub replied_none : (old mid new : Observation) → CountsSent old mid (Err WantOfMemory) → CountsBy nothing mid new → StartsAtMost old new
 replied_none old mid new is closed = record { started = is.started; first = is.first; counts = before_nothing (record nothing { started = is.started }) old mid new is.counts closed }
 
 -- A PORT IS STARTED AT MOST ONCE
-pub once_most : (old new : Told) → StartsAtMost old new → StartsOnce old new
+pub once_most : (old new : Observation) → StartsAtMost old new → StartsOnce old new
 once_most old new most = record { started = most.started; first = most.first; starts = most.counts.starts; exact = most.counts.exact }
 
-pub once_none : (old new : Told) → StartsNone old new → StartsOnce old new
+pub once_none : (old new : Observation) → StartsNone old new → StartsOnce old new
 once_none old new none = record { started = false; first = λ is. cc; starts = none.starts; exact = none.exact }
 
-pub none_same : (told : Told) → StartsNone told told
-none_same told = record { starts = record { later = omega arith; rose = λ is. cc; exactly = λ on. refl }; exact = refl }
+pub none_same : (observed : Observation) → StartsNone observed observed
+none_same observed = record { starts = record { later = omega arith; rose = λ is. cc; exactly = λ on. refl }; exact = refl }
 
-pub once_replied : (old new : Told) (attempted : Attempted) → CountsReply old new attempted → StartsOnce old new
+pub once_replied : (old new : Observation) (attempted : Attempted) → CountsReply old new attempted → StartsOnce old new
 once_replied old new attempted is = record {
   started = is.started;
   first = is.first;
@@ -144,7 +144,7 @@ once_replied old new attempted is = record {
     by reply.Failed = refl
     by reply.Refused = refl
 
-pub once_turned : (old new : Told) (t : Turned) → CountsBy (turn_counts old.started t) old new → StartsOnce old new
+pub once_turned : (old new : Observation) (t : Turned) → CountsBy (turn_counts old.started t) old new → StartsOnce old new
 once_turned old new t is = record { started = (turn_counts old.started t).started; first = by old.started t; starts = is.starts; exact = is.exact }
   where
     by : (was : Bool) (t : Turned) → (turn_counts was t).started ≡ true → was ≡ false
@@ -156,7 +156,7 @@ once_turned old new t is = record { started = (turn_counts old.started t).starte
     by was (turned.Failed false) is = off was is
 
 -- behind no start
-pub once_behind : (old mid new : Told) → mid.started ≡ old.started → StartsNone old mid → StartsOnce mid new → StartsOnce old new
+pub once_behind : (old mid new : Observation) → mid.started ≡ old.started → StartsNone old mid → StartsOnce mid new → StartsOnce old new
 once_behind old mid new same none once = record {
   started = once.started;
   first = λ is. sym same ∙ once.first is;
@@ -165,7 +165,7 @@ once_behind old mid new same none once = record {
 }
 
 -- WHAT WAS DONE BEHIND A CONFIRM
-pub shows_behind : (old mid new : Told) (d : Done) → NoneFell old mid → NoneFell mid new → mid.started ≡ old.started → ShowsDone mid new d → ShowsDone old new d
+pub shows_behind : (old mid new : Observation) (d : Done) → NoneFell old mid → NoneFell mid new → mid.started ≡ old.started → ShowsDone mid new d → ShowsDone old new d
 shows_behind old mid new done.Nothing fell more same shown = shown ∙ same
 shows_behind old mid new (done.Read (turned.Lines stream n room cut)) fell more same shown = shown
 shows_behind old mid new (done.Read (turned.StreamEnded stream cut)) fell more same shown = shown
@@ -178,15 +178,15 @@ shows_behind old mid new (done.Attempted all sent reply.Failed) fell more same s
 shows_behind old mid new (done.Attempted all sent reply.Refused) fell more same shown = (rose_later old.refusals mid.refusals new.refusals fell.refusals more.refusals shown.0, shown.1)
 shows_behind old mid new (done.Judged ports) fell more same shown = shown ∙ same
 shows_behind old mid new done.Closed fell more same shown = shown
-shows_behind old mid new done.Short fell more same shown = tt
+shows_behind old mid new done.OutOfMemory fell more same shown = tt
 shows_behind old mid new done.Starved fell more same shown = shown
 
 -- so it is of an instance without a port
-alone_behind : (old mid new : Told) (d : Done) → mid.started ≡ old.started → ShowsAlone mid new d → ShowsAlone old new d
+alone_behind : (old mid new : Observation) (d : Done) → mid.started ≡ old.started → ShowsAlone mid new d → ShowsAlone old new d
 alone_behind old mid new done.Closed same shown = shown
 alone_behind old mid new other same shown = shown ∙ same
 
-pub work_behind : (r : Role) (old mid new : Told) (d : Done) → NoneFell old mid → NoneFell mid new → mid.started ≡ old.started → ShowsWork r mid new d → ShowsWork r old new d
+pub work_behind : (r : Role) (old mid new : Observation) (d : Done) → NoneFell old mid → NoneFell mid new → mid.started ≡ old.started → ShowsWork r mid new d → ShowsWork r old new d
 work_behind (role.Source core) old mid new d fell more same shown = shows_behind old mid new d fell more same shown
 work_behind (role.Generator generator) old mid new d fell more same shown = alone_behind old mid new d same shown
 work_behind (role.Sink codec) old mid new d fell more same shown = shows_behind old mid new d fell more same shown
@@ -196,11 +196,11 @@ work_behind role.Merge old mid new d fell more same shown = shows_behind old mid
 work_behind role.Unfit old mid new d fell more same shown = shows_behind old mid new d fell more same shown
 
 -- and where no memory was found before
-pub work_short : (r : Role) (old new : Told) → new.started ≡ old.started → ShowsWork r old new done.Short
-work_short (role.Source core) old new same = tt
-work_short (role.Generator generator) old new same = same
-work_short (role.Sink codec) old new same = tt
-work_short role.Blackhole old new same = same
-work_short (role.Transform picker) old new same = tt
-work_short role.Merge old new same = tt
-work_short role.Unfit old new same = tt
+pub work_out_of_memory : (r : Role) (old new : Observation) → new.started ≡ old.started → ShowsWork r old new done.OutOfMemory
+work_out_of_memory (role.Source core) old new same = tt
+work_out_of_memory (role.Generator generator) old new same = same
+work_out_of_memory (role.Sink codec) old new same = tt
+work_out_of_memory role.Blackhole old new same = same
+work_out_of_memory (role.Transform picker) old new same = tt
+work_out_of_memory role.Merge old new same = tt
+work_out_of_memory role.Unfit old new same = tt

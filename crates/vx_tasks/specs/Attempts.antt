@@ -1,6 +1,6 @@
 -- What an attempt does to the port, and what its answer says.
 use Rattle.std.specs.Prelude.{◌≡◌, ◌≢◌, ℕ, ◌≤◌, not, Bool, true, false, Option, Some, None, Result, is_ok}
-use Rattle.vx_ends.specs.Told.{Told, Rose, Happened, CountsBy, nothing, is_failed, is_refused}
+use Rattle.vx_ends.specs.Observation.{Observation, Rose, Happened, CountsBy, nothing, is_failed, is_refused}
 use Rattle.vx_ends.specs.declared.trouble.Trouble.{Trouble}
 use Rattle.vx_ends.specs.declared.trouble.Trouble.TheVariants as trouble
 use Rattle.vx_ends.specs.declared.trouble.Reply.TheVariants.{Ok, Failed, Refused}
@@ -8,7 +8,7 @@ use Rattle.vx_ends.specs.declared.trouble.Reply.{Reply}
 use Rattle.vx_tasks.specs.declared.sending.Attempted.{Attempted}
 
 -- an attempt takes and confirms nothing, and none of these counts falls
-pub record OnlyGives (old new : Told) : Type 0 where
+pub record OnlyGives (old new : Observation) : Type 0 where
   pub taken : new.taken ≡ old.taken
   pub left : new.left ≡ old.left
   pub confirmed : new.confirmed ≡ old.confirmed
@@ -19,13 +19,13 @@ pub record OnlyGives (old new : Told) : Type 0 where
   pub idles : old.idles ≤ new.idles
 
 -- what a reply says of the port: it is started, and a failure closes it; each reply raises its count
-abbrev pub RepliesBy : Told → Told → Reply → Type 0
+abbrev pub RepliesBy : Observation → Observation → Reply → Type 0
 RepliesBy old new Ok = Rose old.finishes new.finishes × (new.started ≡ true)
 RepliesBy old new Failed = Rose old.faults new.faults × (new.started ≡ false)
 RepliesBy old new Refused = Rose old.refusals new.refusals × (new.started ≡ true)
 
 -- the reply has its cause
-abbrev pub IsCaused : Told → Told → Attempted → Type 0
+abbrev pub IsCaused : Observation → Observation → Attempted → Type 0
 IsCaused old new attempted = RepliesBy old new attempted.reply
 
 -- with the reply `Ok` all bytes were sent
@@ -50,7 +50,7 @@ reply_counts started Failed = record nothing { started = started; failed = true 
 reply_counts started Refused = record nothing { started = started; refused = true }
 
 -- an attempt counts its reply once, and one start exactly where the port wasn't started, but perhaps none where that failed
-pub record CountsReply (old new : Told) (attempted : Attempted) : Type 0 where
+pub record CountsReply (old new : Observation) (attempted : Attempted) : Type 0 where
   pub started : Bool
   pub first : started ≡ true → old.started ≡ false
   pub known : attempted.reply ≢ Failed → started ≡ not old.started

@@ -5,7 +5,7 @@ use Rattle.vx_plan.specs.declared.settings.Settings.{Settings}
 use Rattle.vx_plan.specs.declared.settings.Settings.TheVariants.{Stdin, FileIn, DemoLogs, Filter, Route, Sample, Dedupe, Reduce, Host, Console, FileOut, Blackhole}
 use Rattle.vx_plan.specs.Components.{is_transform}
 use Rattle.vx_record.specs.Records.{Record}
-use Rattle.vx_record.specs.Installs.{told}
+use Rattle.vx_record.specs.Installs.{component_or}
 
 -- whether a component of these settings joins
 abbrev pub is_joining : Settings → Bool
@@ -24,4 +24,4 @@ is_joining (Blackhole seconds sink) = false
 
 -- whether the instance is a transform that does
 abbrev pub joins_at : Record → ℕ → Bool
-joins_at = told false (λ (c : Component). is_transform c && is_joining c.settings)
+joins_at = component_or false (λ (c : Component). is_transform c && is_joining c.settings)

@@ -1,6 +1,6 @@
 -- A task that is out is kept by whatever spares it, and what it judged may be answered.
 use Rattle.std.specs.Prelude.{◌≡◌, ℕ, true, false, List, [], ◌∷◌, ◌++◌, length}
-use Rattle.vx_ends.specs.Told.{Told}
+use Rattle.vx_ends.specs.Observation.{Observation}
 use Rattle.vx_ledger.specs.declared.parcel.Parcel.{Parcel}
 use Rattle.vx_record.specs.declared.entry.Entry.TheVariants.{Answer}
 use Rattle.vx_record.specs.Records.{Record}
@@ -20,55 +20,55 @@ use Rattle.vx_places.specs.Holding.{AreKnown}
 use Rattle.vx_tasks.specs.declared.landing.Done.TheVariants.{Judged, Starved}
 use Rattle.vx_tasks.specs.declared.landing.Landing.{Landing}
 use Rattle.vx_tasks.specs.declared.work.Work.{Work}
-use Rattle.vx_tasks.specs.Home.{HasKept}
-use Rattle.vx_tasks.specs.Telling.{IsToldBeyond}
+use Rattle.vx_tasks.specs.Unleased.{HasKept}
+use Rattle.vx_tasks.specs.Observing.{IsObservedBeyond}
 use Rattle.vx_tasks.specs.Judging.{put_out_on, refused_on, passed, stopped, AreDistinct, AreDivided}
 use Rattle.vx_tasks.specs.Out.{IsUnread, StaysClosed, HasLeft, HasDone, confirm_entries}
 
 -- while others go on, a task stays as it left
-abbrev pub LeftKept : {P : Type 0} → (P → Told) → Type 0
-LeftKept told_by = (old new : Record) (work : Work _) → IsLegal old → OnlyAdds (Spares work.instance) old new → HasLeft told_by old work → HasLeft told_by new work
+abbrev pub LeftKept : {P : Type 0} → (P → Observation) → Type 0
+LeftKept observe = (old new : Record) (work : Work _) → IsLegal old → OnlyAdds (Spares work.instance) old new → HasLeft observe old work → HasLeft observe new work
 
--- and as it comes home
-abbrev pub DoneKept : {P : Type 0} → (P → Told) → Type 0
-DoneKept told_by = (old new : Record) (landing : Landing _) → IsLegal old → OnlyAdds (Spares landing.instance) old new → HasDone told_by old landing → HasDone told_by new landing
+-- and as it comes back
+abbrev pub DoneKept : {P : Type 0} → (P → Observation) → Type 0
+DoneKept observe = (old new : Record) (landing : Landing _) → IsLegal old → OnlyAdds (Spares landing.instance) old new → HasDone observe old landing → HasDone observe new landing
 
 -- of an attempt that starved the port tells what the record has, and goes beyond it by bytes that no entry tells
-abbrev pub StarvedBeyond : {P : Type 0} → (P → Told) → Type 0
-StarvedBeyond told_by = (h : Record) (landing : Landing _) → HasDone told_by h landing → landing.done ≡ Starved →
-    IsToldBeyond (told_by landing.task.port) (confirm_entries landing.instance landing.confirmed ++ h) landing.instance (encoded h landing.instance (at h (Held landing.instance)))
+abbrev pub StarvedBeyond : {P : Type 0} → (P → Observation) → Type 0
+StarvedBeyond observe = (h : Record) (landing : Landing _) → HasDone observe h landing → landing.done ≡ Starved →
+    IsObservedBeyond (observe landing.task.port) (confirm_entries landing.instance landing.confirmed ++ h) landing.instance (encoded h landing.instance (at h (Held landing.instance)))
 
 -- a batch that is closed stays so where no birth is due, as behind a Lease or a Take
 abbrev pub ClosedStays : Type 0
 ClosedStays = (h : Record) (i : ℕ) → IsUnread h → is_batch_closed h i (lease_now h i) ≡ true → StaysClosed h i
 
 -- an instance that judged what it holds is a transform that judges event by event
-abbrev pub JudgeIs : {P : Type 0} → (P → Told) → Type 0
-JudgeIs told_by =
-    (h : Record) (landing : Landing _) (ports : List ℕ) → IsLegal h → HasDone told_by h landing → landing.done ≡ Judged ports →
+abbrev pub JudgeIs : {P : Type 0} → (P → Observation) → Type 0
+JudgeIs observe =
+    (h : Record) (landing : Landing _) (ports : List ℕ) → IsLegal h → HasDone observe h landing → landing.done ≡ Judged ports →
     judge_at h landing.instance ≡ true
 
 -- unless the run was given up it judged each parcel
-abbrev pub EachJudged : {P : Type 0} → (P → Told) → Type 0
-EachJudged told_by =
-    (h : Record) (landing : Landing _) (ports : List ℕ) → IsLegal h → abandoned h ≡ false → HasDone told_by h landing →
+abbrev pub EachJudged : {P : Type 0} → (P → Observation) → Type 0
+EachJudged observe =
+    (h : Record) (landing : Landing _) (ports : List ℕ) → IsLegal h → abandoned h ≡ false → HasDone observe h landing →
     landing.done ≡ Judged ports → length ports ≡ length landing.held.items
 
 -- no copy is twice in what an instance holds
-abbrev pub HeldDistinct : {P : Type 0} → (P → Told) → Type 0
-HeldDistinct told_by = (h : Record) (landing : Landing _) → IsLegal h → HasDone told_by h landing → AreDistinct landing.held.items
+abbrev pub HeldDistinct : {P : Type 0} → (P → Observation) → Type 0
+HeldDistinct observe = (h : Record) (landing : Landing _) → IsLegal h → HasDone observe h landing → AreDistinct landing.held.items
 
 -- what it judged it may answer: each parcel is put out on its ports, and those that have none are discarded
-abbrev pub AnswersNow : {P : Type 0} → (P → Told) → Type 0
-AnswersNow told_by =
-    (h : Record) (landing : Landing _) (ports : List ℕ) → IsLegal h → abandoned h ≡ false → HasDone told_by h landing →
+abbrev pub AnswersNow : {P : Type 0} → (P → Observation) → Type 0
+AnswersNow observe =
+    (h : Record) (landing : Landing _) (ports : List ℕ) → IsLegal h → abandoned h ≡ false → HasDone observe h landing →
     landing.done ≡ Judged ports →
     MayAnswer h landing.instance (put_out_on ports landing.held.items) (refused_on ports landing.held.items) []
 
 -- and behind that answer what it keeps stands for all that it has answered
-abbrev pub AnswerKept : {P : Type 0} → (P → Told) → Type 0
-AnswerKept told_by =
-    (h : Record) (landing : Landing _) (ports : List ℕ) → IsLegal h → abandoned h ≡ false → HasDone told_by h landing →
+abbrev pub AnswerKept : {P : Type 0} → (P → Observation) → Type 0
+AnswerKept observe =
+    (h : Record) (landing : Landing _) (ports : List ℕ) → IsLegal h → abandoned h ≡ false → HasDone observe h landing →
     landing.done ≡ Judged ports →
     HasKept (Answer landing.instance (put_out_on ports landing.held.items) (refused_on ports landing.held.items) [] ∷ h) landing.instance landing.task.role
 

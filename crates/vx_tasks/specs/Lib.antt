@@ -1,7 +1,7 @@
-pub mod Telling
+pub mod Observing
 pub mod Judging
 pub mod Joining
-pub mod Home
+pub mod Unleased
 pub mod Out
 pub mod Attempts
 pub mod Jobs

@@ -1,9 +1,9 @@
 -- What is known of a task that is out, said of the record and the instance alone.
 use Rattle.std.specs.Prelude.{◌≡◌, ◌≢◌, IsSomeAnd, ℕ, ◌⊎◌, ◌≤◌, ◌++◌, ◌&&◌, ◌||◌, nat_lt, is_some, is_none, Bool, true, false, List, [], ◌∷◌, length, take, map, Option, Some, None, IfSome, if◌then◌else◌}
 use Rattle.std.specs.List.{list_any}
-use Rattle.vx_value.specs.Texts.{Word}
+use Rattle.vx_value.specs.Texts.{ByteString}
 use Rattle.vx_value.specs.declared.event.Event.{Event}
-use Rattle.vx_ends.specs.Told.{Told}
+use Rattle.vx_ends.specs.Observation.{Observation}
 use Rattle.vx_ends.specs.declared.position.Position.{Position}
 use Rattle.vx_ends.specs.declared.trouble.Reply.{Reply}
 use Rattle.vx_ends.specs.declared.trouble.Reply.TheVariants as reply
@@ -47,8 +47,8 @@ use Rattle.vx_tasks.specs.declared.work.Job.{Job}
 use Rattle.vx_tasks.specs.declared.work.Job.TheVariants as job
 use Rattle.vx_tasks.specs.declared.work.Work.{Work}
 use Rattle.vx_tasks.specs.Joining.{joins_at}
-use Rattle.vx_tasks.specs.Telling.{IsTold, IsToldButGiven, GoesBeyond}
-use Rattle.vx_tasks.specs.Home.{HasCome, StandsAt, HasKept, IsAtHome}
+use Rattle.vx_tasks.specs.Observing.{IsObserved, IsObservedButGiven, GoesBeyond}
+use Rattle.vx_tasks.specs.Unleased.{HasCome, StandsAt, HasKept, IsTaskOf}
 
 -- since it was leased an instance took no turn, made no attempt and confirmed nothing, and its port isn't closed for good
 pub record IsIdle (h : Record) (i : ℕ) : Type 0 where
@@ -125,10 +125,10 @@ is_unfit role.Merge = true
 is_unfit role.Unfit = true
 
 -- a task as it left, of an instance that doesn't merge; all that its instance discarded is spent, and a transform that isn't to judge has answered what it took
-pub record HasLeft {P : Type 0} (told_by : P → Told) (h : Record) (work : Work P) : Type 0 where
+pub record HasLeft {P : Type 0} (observe : P → Observation) (h : Record) (work : Work P) : Type 0 where
   pub out : out_to h work.instance ≡ Some work.worker
   pub idle : IsIdle h work.instance
-  pub home : IsAtHome told_by h work.instance work.task
+  pub unleased : IsTaskOf observe h work.instance work.task
   pub kept : HasKept h work.instance work.task.role
   pub held : IsHeld h work.instance work.held.items
   pub asked : AreDue h work.instance work.positions
@@ -153,14 +153,14 @@ turn_entry h i (turned.StreamEnded stream cut) = read_entry i (reading_of (turne
 turn_entry h i (turned.AllEnded stream cut) = read_entry i (reading_of (turned.AllEnded stream cut))
 
 -- the entries that tell what was done with the port: a turn, or an attempt with the parcels that the instance holds
-abbrev pub deeds : Record → ℕ → List Parcel → Done → List Entry
-deeds h i parcels done.Nothing = []
-deeds h i parcels (done.Read turned) = turn_entry h i turned ∷ []
-deeds h i parcels (done.Attempted all sent answer) = entry.Attempt i (joined (numbers parcels)) (take sent all.value) answer ∷ []
-deeds h i parcels (done.Judged ports) = []
-deeds h i parcels done.Closed = []
-deeds h i parcels done.Short = []
-deeds h i parcels done.Starved = []
+abbrev pub work_entries : Record → ℕ → List Parcel → Done → List Entry
+work_entries h i parcels done.Nothing = []
+work_entries h i parcels (done.Read turned) = turn_entry h i turned ∷ []
+work_entries h i parcels (done.Attempted all sent answer) = entry.Attempt i (joined (numbers parcels)) (take sent all.value) answer ∷ []
+work_entries h i parcels (done.Judged ports) = []
+work_entries h i parcels done.Closed = []
+work_entries h i parcels done.OutOfMemory = []
+work_entries h i parcels done.Starved = []
 
 -- and the entry of the confirm before it
 abbrev pub confirm_entries : ℕ → Option Confirmed → List Entry
@@ -169,14 +169,14 @@ confirm_entries i (Some c) = entry.Confirm i c.positions c.made ∷ []
 
 -- a confirm names what was due when the instance was leased; there is none where nothing was due, or no memory was found
 abbrev pub IsConfirmedSo : Record → ℕ → Done → Option Confirmed → Type 0
-IsConfirmedSo h i done.Short None = Unit {0}
+IsConfirmedSo h i done.OutOfMemory None = Unit {0}
 IsConfirmedSo h i done None = is_confirm_due (at_lease h i) i ≡ false
 IsConfirmedSo h i done (Some c) = AreDue h i (Some c.positions)
 
 -- what the port tells is what the record will have
-abbrev pub TellsDone : Told → Record → ℕ → List Parcel → Done → Type 0
-TellsDone told h i parcels done.Starved = IsToldButGiven told h i
-TellsDone told h i parcels done = IsTold told (deeds h i parcels done ++ h) i
+abbrev pub ReportsDone : Observation → Record → ℕ → List Parcel → Done → Type 0
+ReportsDone observed h i parcels done.Starved = IsObservedButGiven observed h i
+ReportsDone observed h i parcels done = IsObserved observed (work_entries h i parcels done ++ h) i
 
 -- whether a turn read what no memory was found to cut
 abbrev pub lacks_cut : Turned → Bool
@@ -187,14 +187,14 @@ abbrev pub leaves_unfit : Done → Bool
 leaves_unfit (done.Read turned) = lacks_cut turned
 leaves_unfit other = false
 
--- whether an instance may come home with what it took and hasn't answered: it was judged, or no memory was found
+-- whether an instance may come back with what it took and hasn't answered: it was judged, or no memory was found
 abbrev pub leaves_taken : Done → Bool
 leaves_taken done.Nothing = false
 leaves_taken (done.Read turned) = false
 leaves_taken (done.Attempted all sent answer) = false
 leaves_taken (done.Judged ports) = true
 leaves_taken done.Closed = false
-leaves_taken done.Short = true
+leaves_taken done.OutOfMemory = true
 leaves_taken done.Starved = false
 
 -- what a source does comes back as far as its turn says
@@ -224,27 +224,27 @@ pub record HasRead (h : Record) (i : ℕ) (worker_role : Role) (turned : Turned)
 
 -- an attempt of a closed sink batch: the first bytes of what its codec writes of all that it holds, and all of them where the
 -- answer is `Ok`, as that of a sink without a port always is
-pub record HasAttempted (h : Record) (i : ℕ) (worker_role : Role) (all : Word) (sent : ℕ) (answer : Reply) : Type 0 where
+pub record HasAttempted (h : Record) (i : ℕ) (worker_role : Role) (all : ByteString) (sent : ℕ) (answer : Reply) : Type 0 where
   pub may : MayAttemptNow h i
   pub come : HasCome h i worker_role
   pub whole : all ≡ encoded h i (at h (Held i))
   pub within : sent ≤ length all
   pub ok : answer ≡ reply.Ok → sent ≡ length all
-  pub swallowed : device_at h i ≡ false → answer ≡ reply.Ok
+  pub blackhole_ok : device_at h i ≡ false → answer ≡ reply.Ok
 
 -- an attempt of a closed sink batch in whose midst no memory was found: the port was given the first bytes of what its codec
 -- writes of all that it holds, at least one, and is closed
-pub record HasStarved (told : Told) (h : Record) (i : ℕ) (worker_role : Role) : Type 0 where
+pub record HasStarved (observed : Observation) (h : Record) (i : ℕ) (worker_role : Role) : Type 0 where
   pub may : MayAttemptNow h i
   pub come : HasCome h i worker_role
-  pub beyond : GoesBeyond told.given (given h i) (encoded h i (at h (Held i)))
-  pub shut : told.started ≡ false
+  pub beyond : GoesBeyond observed.given (given h i) (encoded h i (at h (Held i)))
+  pub shut : observed.started ≡ false
 
 -- a port that was closed for good
-pub record HasClosed (told : Told) (h : Record) (i : ℕ) (worker_role : Role) : Type 0 where
+pub record HasClosed (observed : Observation) (h : Record) (i : ℕ) (worker_role : Role) : Type 0 where
   pub may : MayCloseNow h i
   pub come : HasCome h i worker_role
-  pub shut : told.started ≡ false
+  pub shut : observed.started ≡ false
 
 -- the ports on which some events are put out, as bits, each by those that came before it
 abbrev pub picked_ports : Judge → List Event → List Event → List ℕ
@@ -271,14 +271,14 @@ pub record HasJudged (h : Record) (i : ℕ) (worker_role : Role) (ports : List �
   pub meant : at h (Held i) ≢ [] → IsSomeAnd (component_of h i) (λ (c : Component). AreMeant (conditions_of c.settings))
 
 -- what was done
-abbrev pub HasActed : Told → Record → ℕ → Role → Done → Type 0
-HasActed told h i worker_role done.Nothing = HasCome h i worker_role
-HasActed told h i worker_role (done.Read turned) = HasRead h i worker_role turned
-HasActed told h i worker_role (done.Attempted all sent answer) = HasAttempted h i worker_role all.value sent answer
-HasActed told h i worker_role (done.Judged ports) = HasJudged h i worker_role ports
-HasActed told h i worker_role done.Closed = HasClosed told h i worker_role
-HasActed told h i worker_role done.Short = HasCome h i worker_role
-HasActed told h i worker_role done.Starved = HasStarved told h i worker_role
+abbrev pub HasActed : Observation → Record → ℕ → Role → Done → Type 0
+HasActed observed h i worker_role done.Nothing = HasCome h i worker_role
+HasActed observed h i worker_role (done.Read turned) = HasRead h i worker_role turned
+HasActed observed h i worker_role (done.Attempted all sent answer) = HasAttempted h i worker_role all.value sent answer
+HasActed observed h i worker_role (done.Judged ports) = HasJudged h i worker_role ports
+HasActed observed h i worker_role done.Closed = HasClosed observed h i worker_role
+HasActed observed h i worker_role done.OutOfMemory = HasCome h i worker_role
+HasActed observed h i worker_role done.Starved = HasStarved observed h i worker_role
 
 -- what an instance keeps stands for what it has answered, unless it judged, or no memory was found, which may have been in the midst of
 -- judging
@@ -288,17 +288,17 @@ IsKeptBy h i does (done.Read turned) = HasKept h i does
 IsKeptBy h i does (done.Attempted all sent answer) = HasKept h i does
 IsKeptBy h i does (done.Judged ports) = Unit {0}
 IsKeptBy h i does done.Closed = HasKept h i does
-IsKeptBy h i does done.Short = Unit {0}
+IsKeptBy h i does done.OutOfMemory = Unit {0}
 IsKeptBy h i does done.Starved = HasKept h i does
 
 -- a task with what was done: its port tells what the record will have
-pub record HasDone {P : Type 0} (told_by : P → Told) (h : Record) (landing : Landing P) : Type 0 where
+pub record HasDone {P : Type 0} (observe : P → Observation) (h : Record) (landing : Landing P) : Type 0 where
   pub out : out_to h landing.instance ≡ Some landing.worker
   pub idle : IsIdle h landing.instance
   pub held : IsHeld h landing.instance landing.held.items
   pub confirmed : IsConfirmedSo h landing.instance landing.done landing.confirmed
-  pub told : TellsDone (told_by landing.task.port) (confirm_entries landing.instance landing.confirmed ++ h) landing.instance landing.held.items landing.done
-  pub acted : HasActed (told_by landing.task.port) h landing.instance landing.task.role landing.done
+  pub observed : ReportsDone (observe landing.task.port) (confirm_entries landing.instance landing.confirmed ++ h) landing.instance landing.held.items landing.done
+  pub acted : HasActed (observe landing.task.port) h landing.instance landing.task.role landing.done
   pub kept : IsKeptBy h landing.instance landing.task.role landing.done
   pub settled : owes_discards h landing.instance ≡ false
   pub untaken : leaves_taken landing.done ≡ false → owes_answer h landing.instance ≡ false

@@ -1,6 +1,6 @@
 ghost use Rattle.std.specs.Prelude.{◌≡◌, ℕ, ◌++◌, IfOk, OnErr, IsSome};
 ghost use Rattle.vx_record.specs.Records.{Record};
-ghost use Rattle.vx_tasks.specs.Telling.{IsTold};
+ghost use Rattle.vx_tasks.specs.Observing.{IsObserved};
 ghost use Rattle.vx_tasks.specs.Out.{AreDue, IsConfirmedSo, confirm_entries};
 ghost use Rattle.vx_tasks.specs.Jobs.{NoneFell, StartsNone};
 ghost use Rattle.vx_tasks.specs.declared.landing.Done.{Done};
@@ -20,14 +20,14 @@ pub(crate) fn confirm<P: Port>(
     port: &mut P,
     positions: Option<PositionList>,
 ) -> Result<Option<Confirmed>, WantOfMemory>
-    ensures told { IfOk result
-        (λ confirmed. (h : Record) (i : ℕ) → IsTold (P.told port.old) h i →
-        IsTold (P.told port.new) (confirm_entries i confirmed ++ h) i) }
+    ensures observed { IfOk result
+        (λ confirmed. (h : Record) (i : ℕ) → IsObserved (P.observed port.old) h i →
+        IsObserved (P.observed port.new) (confirm_entries i confirmed ++ h) i) }
     ensures short { OnErr result
-        ((h : Record) (i : ℕ) → IsTold (P.told port.old) h i → IsTold (P.told port.new) h i) }
-    ensures counts { NoneFell (P.told port.old) (P.told port.new) }
-    ensures starts { StartsNone (P.told port.old) (P.told port.new) }
-    ensures started { (P.told port.new).started ≡ (P.told port.old).started }
+        ((h : Record) (i : ℕ) → IsObserved (P.observed port.old) h i → IsObserved (P.observed port.new) h i) }
+    ensures counts { NoneFell (P.observed port.old) (P.observed port.new) }
+    ensures starts { StartsNone (P.observed port.old) (P.observed port.new) }
+    ensures started { (P.observed port.new).started ≡ (P.observed port.old).started }
     ensures asked { OnErr result (IsSome positions) }
     ensures due { IfOk result
         (λ confirmed. (h : Record) (i : ℕ) (done : Done) → AreDue h i positions →

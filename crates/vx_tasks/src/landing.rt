@@ -30,13 +30,13 @@ pub enum Done {
     Closed,
     /// No memory was found to confirm, to read, to write or to judge, and nothing was confirmed, taken, given or put out for want of
     /// it.
-    Short,
+    OutOfMemory,
     /// No memory was found in the midst of an attempt. The port was given the first bytes of it, at least one, which no entry tells,
     /// and is closed.
     Starved,
 }
 
-/// A task that comes home, with what was done, and what the instance holds.
+/// A task that comes back, with what was done, and what the instance holds.
 pub struct Landing<P> {
     pub instance: u32,
     pub worker: u32,

@@ -1,4 +1,4 @@
-//! What a worker takes along of an instance, what it does with that, and what it brings home. Nothing here knows of the hub.
+//! What a worker takes along of an instance, what it does with that, and what it brings back. Nothing here knows of the hub.
 #![tactic(auto)]
 
 mod confirming;

@@ -1,5 +1,5 @@
 ghost use Rattle.std.specs.Prelude.{◌≡◌, ◌≤◌, length, take, IfOk, IfErr, OnErr, OnOk, IsNone, IsErrOf, IsTrue, Some, false};
-ghost use Rattle.vx_ends.specs.Told.{Grows, Rose, CountsBy, nothing};
+ghost use Rattle.vx_ends.specs.Observation.{Grows, Rose, CountsBy, nothing};
 ghost use Rattle.vx_tasks.specs.Attempts.{OnlyGives, IsCaused, IsWhole, CountsReply, sent_counts, trouble_counts};
 ghost use Rattle.vx_sourcecore.specs.Turns.{StartsAtMost};
 
@@ -22,18 +22,18 @@ pub(crate) struct CutShort {
 pub(crate) fn attempt<P: Port>(port: &mut P, bytes: &[u8]) -> Result<Attempted, CutShort>
     ensures within { IfOk result (λ attempted. attempted.sent ≤ length bytes.now) }
     ensures given { IfOk result
-        (λ attempted. Grows (P.told port.old).given (P.told port.new).given
+        (λ attempted. Grows (P.observed port.old).given (P.observed port.new).given
         (take attempted.sent bytes.now)) }
     ensures whole { IfOk result (IsWhole (length bytes.now)) }
-    ensures cause { IfOk result (IsCaused (P.told port.old) (P.told port.new)) }
-    ensures others { OnlyGives (P.told port.old) (P.told port.new) }
-    ensures counts { IfOk result (CountsReply (P.told port.old) (P.told port.new)) }
-    ensures uncounted { OnErr result (StartsAtMost (P.told port.old) (P.told port.new)) }
+    ensures cause { IfOk result (IsCaused (P.observed port.old) (P.observed port.new)) }
+    ensures others { OnlyGives (P.observed port.old) (P.observed port.new) }
+    ensures counts { IfOk result (CountsReply (P.observed port.old) (P.observed port.new)) }
+    ensures uncounted { OnErr result (StartsAtMost (P.observed port.old) (P.observed port.new)) }
     ensures short { IfErr result
-        (λ short. Grows (P.told port.old).given (P.told port.new).given
+        (λ short. Grows (P.observed port.old).given (P.observed port.new).given
         (take short.sent bytes.now)) }
     ensures part { IfErr result (λ short. short.sent ≤ length bytes.now) }
-    ensures closed { OnErr result ((P.told port.new).started ≡ false) }
+    ensures closed { OnErr result ((P.observed port.new).started ≡ false) }
 {
     let (sent, answer) = match port.start() {
         Ok(()) => give_and_finish(port, bytes),
@@ -69,14 +69,14 @@ pub(crate) fn attempt<P: Port>(port: &mut P, bytes: &[u8]) -> Result<Attempted, 
 
 /// Gives the bytes, and finishes where all were given.
 fn give_and_finish<P: Port>(port: &mut P, bytes: &[u8]) -> (u64, Result<(), Trouble>)
-    requires { IsTrue (P.told port.old).started }
+    requires { IsTrue (P.observed port.old).started }
     ensures within { result.0 ≤ length bytes.now }
-    ensures given { Grows (P.told port.old).given (P.told port.new).given
+    ensures given { Grows (P.observed port.old).given (P.observed port.new).given
         (take result.0 bytes.now) }
     ensures whole { OnOk result.1 (result.0 ≡ length bytes.now) }
-    ensures counts { CountsBy (sent_counts result.1) (P.told port.old) (P.told port.new) }
-    ensures others { OnlyGives (P.told port.old) (P.told port.new) }
-    ensures started { (P.told port.new).started ≡ (P.told port.old).started }
+    ensures counts { CountsBy (sent_counts result.1) (P.observed port.old) (P.observed port.new) }
+    ensures others { OnlyGives (P.observed port.old) (P.observed port.new) }
+    ensures started { (P.observed port.new).started ≡ (P.observed port.old).started }
 {
     let (sent, trouble) = give_all(port, bytes);
     match trouble {
@@ -87,14 +87,14 @@ fn give_and_finish<P: Port>(port: &mut P, bytes: &[u8]) -> (u64, Result<(), Trou
 
 /// Gives the bytes until a give fails: how many were given, and why not all of them.
 fn give_all<P: Port>(port: &mut P, bytes: &[u8]) -> (usize, Option<Trouble>)
-    requires { IsTrue (P.told port.old).started }
+    requires { IsTrue (P.observed port.old).started }
     ensures within { result.0 ≤ length bytes.now }
-    ensures given { Grows (P.told port.old).given (P.told port.new).given
+    ensures given { Grows (P.observed port.old).given (P.observed port.new).given
         (take result.0 bytes.now) }
     ensures whole { IsNone result.1 → result.0 ≡ length bytes.now }
-    ensures counts { CountsBy (trouble_counts result.1) (P.told port.old) (P.told port.new) }
-    ensures others { OnlyGives (P.told port.old) (P.told port.new) }
-    ensures started { (P.told port.new).started ≡ (P.told port.old).started }
+    ensures counts { CountsBy (trouble_counts result.1) (P.observed port.old) (P.observed port.new) }
+    ensures others { OnlyGives (P.observed port.old) (P.observed port.new) }
+    ensures started { (P.observed port.new).started ≡ (P.observed port.old).started }
 {
     let mut at = 0;
     while at < bytes.len() {

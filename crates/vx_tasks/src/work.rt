@@ -6,9 +6,9 @@ ghost use Rattle.vx_ledger.specs.declared.parcel.Parcel.{Parcel};
 ghost use Rattle.vx_sourcecore.specs.declared.source.SourceCore.{SourceCore};
 ghost use Rattle.vx_sourcecore.specs.Abreast.{HasTurned};
 ghost use Rattle.vx_sourcecore.specs.Generators.{HasMade};
-ghost use Rattle.vx_tasks.specs.Telling.{IsTold};
-ghost use Rattle.vx_tasks.specs.Out.{HasLeft, HasDone, TellsDone, HasActed, HasRoleTurned, is_unfit, lacks_cut};
-ghost use Rattle.vx_ends.specs.Told.{Told};
+ghost use Rattle.vx_tasks.specs.Observing.{IsObserved};
+ghost use Rattle.vx_tasks.specs.Out.{HasLeft, HasDone, ReportsDone, HasActed, HasRoleTurned, is_unfit, lacks_cut};
+ghost use Rattle.vx_ends.specs.Observation.{Observation};
 ghost use Rattle.vx_plan.specs.declared.settings.Settings.{Settings};
 ghost use Rattle.vx_plan.specs.Options.{conditions_of};
 ghost use Rattle.vx_pick.specs.Picks.{Picks, StandsFor, AreMeant};
@@ -65,7 +65,7 @@ pub struct Work<P> {
 impl<P: Port> Work<P> {
     /// Does the work, without the hub: confirms what is due, and then reads, writes or closes the port, as the job says, or does
     /// nothing where the instance can't do that job. Where no memory is found for the confirm, nothing else is done. What the instance
-    /// holds comes home as it left. docs/DEFINITIONS.md has what is meant by a task as it left and as it comes home.
+    /// holds comes back as it left. docs/DEFINITIONS.md has what is meant by a task as it left and as it comes back.
     pub fn work<C: Clock>(self, alloc: Global, _clock: &C) -> Landing<P>
         ensures instance { result.instance ≡ self.instance }
         ensures worker { result.worker ≡ self.worker }
@@ -73,11 +73,11 @@ impl<P: Port> Work<P> {
         ensures does { DoesJob self.job self.task.role result.done
             ⊎ LacksConfirm self.positions result.confirmed result.done }
         ensures role { KeepsRole self.task.role result.task.role result.done }
-        ensures counts { NoneFell (P.told self.task.port) (P.told result.task.port) }
-        ensures starts { StartsOnce (P.told self.task.port) (P.told result.task.port) }
-        ensures shows { ShowsWork self.task.role (P.told self.task.port)
-            (P.told result.task.port) result.done }
-        ensures done { (h : Record) → IsLegal h → HasLeft P.told h self → HasDone P.told h result }
+        ensures counts { NoneFell (P.observed self.task.port) (P.observed result.task.port) }
+        ensures starts { StartsOnce (P.observed self.task.port) (P.observed result.task.port) }
+        ensures shows { ShowsWork self.task.role (P.observed self.task.port)
+            (P.observed result.task.port) result.done }
+        ensures done { (h : Record) → IsLegal h → HasLeft P.observed h self → HasDone P.observed h result }
     {
         let Work {
             instance,
@@ -88,13 +88,13 @@ impl<P: Port> Work<P> {
             job,
         } = self;
         let Task { mut port, role } = task;
-        let (confirmed, deed) = match confirm(&mut port, positions) {
+        let (confirmed, work_result) = match confirm(&mut port, positions) {
             Ok(confirmed) => (confirmed, act(alloc, job, &mut port, role, &held)),
             Err(WantOfMemory) => (
                 None,
-                Deed {
+                WorkResult {
                     role,
-                    done: Done::Short,
+                    done: Done::OutOfMemory,
                 },
             ),
         };
@@ -103,48 +103,54 @@ impl<P: Port> Work<P> {
             worker,
             task: Task {
                 port,
-                role: deed.role,
+                role: work_result.role,
             },
             held,
             confirmed,
-            done: deed.done,
+            done: work_result.done,
         }
     }
 }
 
 /// What an instance does with its port from now on, and what was done.
 #[derive(Drop)]
-struct Deed {
+struct WorkResult {
     role: Role,
     done: Done,
 }
 
 /// Does a job with a port.
-fn act<P: Port>(alloc: Global, job: Job, port: &mut P, role: Role, held: &Line<Parcel>) -> Deed
-    ensures told { (h : Record) (i : ℕ) → IsPortedAs (device_at h i) role →
-        IsTold (P.told port.old) h i → TellsDone (P.told port.new) h i held.now.items result.done }
-    ensures acted { (h : Record) (i : ℕ) → MayAct (P.told port.old) h i role held.now.items job →
-        HasActed (P.told port.new) h i result.role result.done }
+fn act<P: Port>(
+    alloc: Global,
+    job: Job,
+    port: &mut P,
+    role: Role,
+    held: &Line<Parcel>,
+) -> WorkResult
+    ensures observed { (h : Record) (i : ℕ) → IsPortedAs (device_at h i) role →
+        IsObserved (P.observed port.old) h i → ReportsDone (P.observed port.new) h i held.now.items result.done }
+    ensures acted { (h : Record) (i : ℕ) → MayAct (P.observed port.old) h i role held.now.items job →
+        HasActed (P.observed port.new) h i result.role result.done }
     ensures does { DoesJob job role result.done }
     ensures keeps { KeepsRole role result.role result.done }
-    ensures counts { NoneFell (P.told port.old) (P.told port.new) }
-    ensures starts { StartsOnce (P.told port.old) (P.told port.new) }
-    ensures shows { ShowsWork role (P.told port.old) (P.told port.new) result.done }
+    ensures counts { NoneFell (P.observed port.old) (P.observed port.new) }
+    ensures starts { StartsOnce (P.observed port.old) (P.observed port.new) }
+    ensures shows { ShowsWork role (P.observed port.old) (P.observed port.new) result.done }
 {
     match (job, role) {
         (Job::Read, Role::Source(core)) => read(port, core),
         (Job::Read, Role::Generator(generator)) => make(generator),
         (Job::Attempt, Role::Sink(writer)) => send(alloc, port, writer, held),
-        (Job::Attempt, Role::Blackhole) => Deed {
+        (Job::Attempt, Role::Blackhole) => WorkResult {
             role: Role::Blackhole,
-            done: swallow(alloc),
+            done: write_nothing(alloc),
         },
         (Job::Judge, Role::Transform(picker)) => judge(alloc, picker, held),
-        (Job::Close, role) => Deed {
+        (Job::Close, role) => WorkResult {
             role,
             done: close(port),
         },
-        (_, role) => Deed {
+        (_, role) => WorkResult {
             role,
             done: Done::Nothing,
         },
@@ -152,22 +158,22 @@ fn act<P: Port>(alloc: Global, job: Job, port: &mut P, role: Role, held: &Line<P
 }
 
 /// Judges what a transform holds. Where no memory was found nothing is put out, though what it keeps may stand for some of that.
-fn judge(alloc: Global, picker: Picker, held: &Line<Parcel>) -> Deed
-    ensures told { (told : Told) (h : Record) (i : ℕ) → IsTold told h i →
-        TellsDone told h i held.now.items result.done }
-    ensures acted { (told : Told) (h : Record) (i : ℕ) →
-        MayAct told h i (Role.Transform picker) held.now.items Job.Judge →
-        HasActed told h i result.role result.done }
+fn judge(alloc: Global, picker: Picker, held: &Line<Parcel>) -> WorkResult
+    ensures observed { (observed : Observation) (h : Record) (i : ℕ) → IsObserved observed h i →
+        ReportsDone observed h i held.now.items result.done }
+    ensures acted { (observed : Observation) (h : Record) (i : ℕ) →
+        MayAct observed h i (Role.Transform picker) held.now.items Job.Judge →
+        HasActed observed h i result.role result.done }
     ensures does { DoesJob Job.Judge (Role.Transform picker) result.done }
     ensures keeps { KeepsRole (Role.Transform picker) result.role result.done }
-    ensures shows { (told : Told) → ShowsDone told told result.done }
+    ensures shows { (observed : Observation) → ShowsDone observed observed result.done }
 {
     let mut picker = picker;
     let done = match judge_all(alloc, &mut picker, held) {
         Ok(ports) => Done::Judged(ports),
-        Err(WantOfMemory) => Done::Short,
+        Err(WantOfMemory) => Done::OutOfMemory,
     };
-    Deed {
+    WorkResult {
         role: Role::Transform(picker),
         done,
     }
@@ -204,52 +210,52 @@ fn judge_all(
 }
 
 /// Takes from a source's port. Where no memory was found to cut what was taken, the source is of no use any more.
-fn read<P: Port>(port: &mut P, core: SourceCore) -> Deed
-    ensures told { (h : Record) (i : ℕ) (parcels : List Parcel) → device_at h i ≡ true →
-        IsTold (P.told port.old) h i → TellsDone (P.told port.new) h i parcels result.done }
+fn read<P: Port>(port: &mut P, core: SourceCore) -> WorkResult
+    ensures observed { (h : Record) (i : ℕ) (parcels : List Parcel) → device_at h i ≡ true →
+        IsObserved (P.observed port.old) h i → ReportsDone (P.observed port.new) h i parcels result.done }
     ensures acted { (h : Record) (i : ℕ) (parcels : List Parcel) →
-        MayAct (P.told port.old) h i (Role.Source core) parcels Job.Read →
-        HasActed (P.told port.new) h i result.role result.done }
+        MayAct (P.observed port.old) h i (Role.Source core) parcels Job.Read →
+        HasActed (P.observed port.new) h i result.role result.done }
     ensures does { DoesJob Job.Read (Role.Source core) result.done }
     ensures keeps { KeepsRole (Role.Source core) result.role result.done }
-    ensures counts { NoneFell (P.told port.old) (P.told port.new) }
-    ensures starts { StartsOnce (P.told port.old) (P.told port.new) }
-    ensures shows { ShowsDone (P.told port.old) (P.told port.new) result.done }
+    ensures counts { NoneFell (P.observed port.old) (P.observed port.new) }
+    ensures starts { StartsOnce (P.observed port.old) (P.observed port.new) }
+    ensures shows { ShowsDone (P.observed port.old) (P.observed port.new) result.done }
 {
     let mut core = core;
     match core.turn(port) {
-        Ok(turned) => Deed {
+        Ok(turned) => WorkResult {
             role: role_behind(core, &turned),
             done: Done::Read(turned),
         },
-        Err(WantOfMemory) => Deed {
+        Err(WantOfMemory) => WorkResult {
             role: Role::Source(core),
-            done: Done::Short,
+            done: Done::OutOfMemory,
         },
     }
 }
 
 /// Makes the next lines of a source that needs no port. Where no memory was found to cut what was made, the source is of no use any
 /// more.
-fn make(generator: Generator) -> Deed
-    ensures told { (told : Told) (h : Record) (i : ℕ) (parcels : List Parcel) →
-        device_at h i ≡ false → IsTold told h i → TellsDone told h i parcels result.done }
-    ensures acted { (told : Told) (h : Record) (i : ℕ) (parcels : List Parcel) →
-        MayAct told h i (Role.Generator generator) parcels Job.Read →
-        HasActed told h i result.role result.done }
+fn make(generator: Generator) -> WorkResult
+    ensures observed { (observed : Observation) (h : Record) (i : ℕ) (parcels : List Parcel) →
+        device_at h i ≡ false → IsObserved observed h i → ReportsDone observed h i parcels result.done }
+    ensures acted { (observed : Observation) (h : Record) (i : ℕ) (parcels : List Parcel) →
+        MayAct observed h i (Role.Generator generator) parcels Job.Read →
+        HasActed observed h i result.role result.done }
     ensures does { DoesJob Job.Read (Role.Generator generator) result.done }
     ensures keeps { KeepsRole (Role.Generator generator) result.role result.done }
-    ensures shows { (told : Told) → ShowsAlone told told result.done }
+    ensures shows { (observed : Observation) → ShowsAlone observed observed result.done }
 {
     let mut generator = generator;
     match generator.turn() {
-        Ok(turned) => Deed {
+        Ok(turned) => WorkResult {
             role: role_of_made(generator, &turned),
             done: Done::Read(turned),
         },
-        Err(WantOfMemory) => Deed {
+        Err(WantOfMemory) => WorkResult {
             role: Role::Generator(generator),
-            done: Done::Short,
+            done: Done::OutOfMemory,
         },
     }
 }
@@ -270,14 +276,14 @@ fn role_of_made(generator: Generator, turned: &Turned) -> Role
 }
 
 /// Takes what a black hole holds: nothing of it is written.
-fn swallow(alloc: Global) -> Done
-    ensures told { (told : Told) (h : Record) (i : ℕ) (parcels : List Parcel) →
-        device_at h i ≡ false → IsTold told h i → TellsDone told h i parcels result }
-    ensures acted { (told : Told) (h : Record) (i : ℕ) (parcels : List Parcel) →
-        MayAct told h i Role.Blackhole parcels Job.Attempt →
-        HasActed told h i Role.Blackhole result }
+fn write_nothing(alloc: Global) -> Done
+    ensures observed { (observed : Observation) (h : Record) (i : ℕ) (parcels : List Parcel) →
+        device_at h i ≡ false → IsObserved observed h i → ReportsDone observed h i parcels result }
+    ensures acted { (observed : Observation) (h : Record) (i : ℕ) (parcels : List Parcel) →
+        MayAct observed h i Role.Blackhole parcels Job.Attempt →
+        HasActed observed h i Role.Blackhole result }
     ensures does { DoesJob Job.Attempt Role.Blackhole result }
-    ensures shows { (told : Told) → ShowsAlone told told result }
+    ensures shows { (observed : Observation) → ShowsAlone observed observed result }
 {
     let none = Bytes::new(alloc);
     Done::Attempted {
@@ -316,41 +322,41 @@ fn is_uncut(turned: &Turned) -> bool
 /// Closes a port.
 fn close<P: Port>(port: &mut P) -> Done
     ensures closed { result ≡ Done.Closed }
-    ensures told { (h : Record) (i : ℕ) → IsTold (P.told port.old) h i →
-        IsTold (P.told port.new) h i }
-    ensures shut { (P.told port.new).started ≡ false }
-    ensures counts { NoneFell (P.told port.old) (P.told port.new) }
-    ensures starts { StartsNone (P.told port.old) (P.told port.new) }
+    ensures observed { (h : Record) (i : ℕ) → IsObserved (P.observed port.old) h i →
+        IsObserved (P.observed port.new) h i }
+    ensures shut { (P.observed port.new).started ≡ false }
+    ensures counts { NoneFell (P.observed port.old) (P.observed port.new) }
+    ensures starts { StartsNone (P.observed port.old) (P.observed port.new) }
 {
     port.close();
     Done::Closed
 }
 
 /// Writes a sink batch, in the memory of the one before.
-fn send<P: Port>(alloc: Global, port: &mut P, writer: Writer, held: &Line<Parcel>) -> Deed
-    ensures told { (h : Record) (i : ℕ) → device_at h i ≡ true → IsTold (P.told port.old) h i →
-        TellsDone (P.told port.new) h i held.now.items result.done }
+fn send<P: Port>(alloc: Global, port: &mut P, writer: Writer, held: &Line<Parcel>) -> WorkResult
+    ensures observed { (h : Record) (i : ℕ) → device_at h i ≡ true → IsObserved (P.observed port.old) h i →
+        ReportsDone (P.observed port.new) h i held.now.items result.done }
     ensures acted { (h : Record) (i : ℕ) →
-        MayAct (P.told port.old) h i (Role.Sink writer) held.now.items Job.Attempt →
-        HasActed (P.told port.new) h i result.role result.done }
+        MayAct (P.observed port.old) h i (Role.Sink writer) held.now.items Job.Attempt →
+        HasActed (P.observed port.new) h i result.role result.done }
     ensures does { DoesJob Job.Attempt (Role.Sink writer) result.done }
     ensures keeps { KeepsRole (Role.Sink writer) result.role result.done }
-    ensures counts { NoneFell (P.told port.old) (P.told port.new) }
-    ensures starts { StartsOnce (P.told port.old) (P.told port.new) }
-    ensures shows { ShowsDone (P.told port.old) (P.told port.new) result.done }
+    ensures counts { NoneFell (P.observed port.old) (P.observed port.new) }
+    ensures starts { StartsOnce (P.observed port.old) (P.observed port.new) }
+    ensures shows { ShowsDone (P.observed port.old) (P.observed port.new) result.done }
 {
     let codec = writer.codec();
     let Ok(bytes) = encode(codec, held, writer.into_room()) else {
-        return Deed {
+        return WorkResult {
             role: Role::Sink(Writer::new(alloc, codec)),
-            done: Done::Short,
+            done: Done::OutOfMemory,
         };
     };
     let all = Snapshot::of(&bytes);
     let answer = attempt(port, bytes.as_slice());
     let role = Role::Sink(Writer::behind(alloc, codec, bytes));
     match answer {
-        Ok(attempted) => Deed {
+        Ok(attempted) => WorkResult {
             role,
             done: Done::Attempted {
                 all,
@@ -358,11 +364,11 @@ fn send<P: Port>(alloc: Global, port: &mut P, writer: Writer, held: &Line<Parcel
                 reply: attempted.reply,
             },
         },
-        Err(short) if short.sent == 0 => Deed {
+        Err(short) if short.sent == 0 => WorkResult {
             role,
-            done: Done::Short,
+            done: Done::OutOfMemory,
         },
-        Err(_) => Deed {
+        Err(_) => WorkResult {
             role,
             done: Done::Starved,
         },

@@ -6,7 +6,7 @@ use Rattle.std.specs.Ordering.{ordering_then}
 use Rattle.vx_value.specs.declared.field.Field.{Field}
 use Rattle.vx_value.specs.declared.value.Value.{Value}
 use Rattle.vx_value.specs.Datum.{Datum, Data, no_data, datum, NamedData, no_named, named, data_of, named_of}
-use Rattle.vx_value.specs.Texts.{Word}
+use Rattle.vx_value.specs.Texts.{ByteString}
 use Rattle.vx_value.specs.Values.{datum_of, named_datum}
 use Rattle.vx_value.specs.Orders.{text_cmp, datum_cmp, data_cmp, named_cmp}
 
@@ -46,7 +46,7 @@ data-more zero (x ∷ xs) h = (datum_of x, data_of (map datum_of xs), refl)
 data-more (suc i) [] h = absurd (omega arith)
 data-more (suc i) (x ∷ xs) h = data-more i xs (omega arith)
 
-named-more : (i : ℕ) (xs : List Field) → i < length xs → (n : Word) × (d : Datum) × (ns : NamedData) × (named_of (map named_datum (drop i xs)) ≡ named n d ns)
+named-more : (i : ℕ) (xs : List Field) → i < length xs → (n : ByteString) × (d : Datum) × (ns : NamedData) × (named_of (map named_datum (drop i xs)) ≡ named n d ns)
 named-more zero [] h = absurd (omega arith)
 named-more zero (x ∷ xs) h = (x.name, datum_of x.value, named_of (map named_datum xs), refl)
 named-more (suc i) [] h = absurd (omega arith)

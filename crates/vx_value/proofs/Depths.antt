@@ -3,7 +3,7 @@ use Rattle.std.proofs.Common.{◌≡◌, ℕ, zero, suc, max, ◌+◌, ◌<◌, 
 use Rattle.vx_value.specs.declared.field.Field.{Field}
 use Rattle.vx_value.specs.declared.value.Value.{Value}
 use Rattle.vx_value.specs.Datum.{NamedDatum, depth, data_depth, data_of, named_depth, named_of}
-use Rattle.vx_value.specs.Texts.{Word, same_text, text_lt}
+use Rattle.vx_value.specs.Texts.{ByteString, same_text, text_lt}
 use Rattle.vx_value.specs.Values.{datum_of, named_datum}
 use Rattle.vx_value.specs.Events.{others_depth, names_rise}
 use Rattle.vx_value.proofs.Order.{less_not_same', text_lt-trans}
@@ -23,7 +23,7 @@ grown : (b : Bool) (d low n : ℕ) → n ≤ low → n ≤ cond b low (max d low
 grown true d low n h = h
 grown false d low n h = omega arith
 
-pub others_depth-bound : (fs : List Field) (i : ℕ) (f : Field) (name : Word) → i < length fs → f ≡ get_or fs i f → same_text f.name name ≡ false → depth (datum_of f.value) ≤ others_depth (map named_datum fs) name
+pub others_depth-bound : (fs : List Field) (i : ℕ) (f : Field) (name : ByteString) → i < length fs → f ≡ get_or fs i f → same_text f.name name ≡ false → depth (datum_of f.value) ≤ others_depth (map named_datum fs) name
 others_depth-bound [] i f name h e other = omega arith
 others_depth-bound (g ∷ fs) zero f name h e other =
     let o : same_text g.name name ≡ false = ap (λ k. same_text k.name name) (sym e) ∙ other in rw (e, o) (omega arith)
@@ -46,7 +46,7 @@ named_depth-more (g ∷ fs) (suc i) f n h e low this =
     let m' : named_depth (named_of (map named_datum (take (suc i) fs))) ≤ n = (rw add-one at m) in rw add-one (omega arith)
 
 -- what a list without one more value at most has, it has with that value too, if that one isn't deeper or has the name
-pub others_depth-more : (fs : List Field) (i : ℕ) (f : Field) (name : Word) (n : ℕ) → i < length fs → f ≡ get_or fs i f → others_depth (map named_datum (take i fs)) name ≤ n → (same_text f.name name ≡ false → depth (datum_of f.value) ≤ n) → others_depth (map named_datum (take (i + 1) fs)) name ≤ n
+pub others_depth-more : (fs : List Field) (i : ℕ) (f : Field) (name : ByteString) (n : ℕ) → i < length fs → f ≡ get_or fs i f → others_depth (map named_datum (take i fs)) name ≤ n → (same_text f.name name ≡ false → depth (datum_of f.value) ≤ n) → others_depth (map named_datum (take (i + 1) fs)) name ≤ n
 others_depth-more [] i f name n h e low this = omega arith
 others_depth-more (g ∷ fs) zero f name n h e low this = first (same_text g.name name) refl
   where
@@ -63,7 +63,7 @@ others_depth-more (g ∷ fs) (suc i) f name n h e low this =
         let l : max (depth (datum_of g.value)) (others_depth (map named_datum (take i fs)) name) ≤ n = (rw k at low) in let m : others_depth (map named_datum (take (suc i) fs)) name ≤ n = later (omega arith) in rw k (omega arith)
 
 -- behind a greater name no field has the name
-pub others_depth-past : (f : NamedDatum) (fs : List NamedDatum) (name : Word) → text_lt name f.name ≡ true → IsTrue (names_rise (f ∷ fs)) → others_depth (f ∷ fs) name ≡ named_depth (named_of (f ∷ fs))
+pub others_depth-past : (f : NamedDatum) (fs : List NamedDatum) (name : ByteString) → text_lt name f.name ≡ true → IsTrue (names_rise (f ∷ fs)) → others_depth (f ∷ fs) name ≡ named_depth (named_of (f ∷ fs))
 others_depth-past f [] name more rise = rw less_not_same' refl
 others_depth-past f (g ∷ fs) name more rise =
     let next : text_lt name g.name ≡ true = text_lt-trans name f.name g.name more (grind arith) in

@@ -6,7 +6,7 @@ use Rattle.std.proofs.lemmas.Bool.Decides.{nat_tests}
 use Rattle.std.proofs.lemmas.Str.{IsUtf8-take, IsUtf8-drop, IsUtf8-append, IsCharBoundary-before_ascii, IsCharBoundary-after_ascii}
 use Rattle.std.proofs.lemmas.List.{take-append-drop, take_all}
 use Rattle.std.proofs.Math.Seq.{take-suc}
-use Rattle.vx_value.specs.Texts.{Word, is_empty}
+use Rattle.vx_value.specs.Texts.{ByteString, is_empty}
 use Rattle.vx_value.specs.Paths.{begins_name, goes_on, name_move, move_of, ends_path, carry, names_from, path_names, BeginsPath, IsLongestBeginning}
 use Rattle.vx_value.specs.Reads.{Moved, HasRead}
 use Rattle.vx_value.specs.declared.path_mode.PathMode.{PathMode}
@@ -94,11 +94,11 @@ ends-low Escaped none b e = absurd (no-end (eqb b 34 || eqb b 92) (Adds Quoted) 
 ends-low Closed none b e = by-test b 46 Ends Refused (λ v. v ≡ Ends) (lit< tt) (λ y. absurd (cc y)) e
 
 -- ---- one byte more
-map-nil : (o : Option (List Word)) → option_map (λ more. [] ++ more) o ≡ o
+map-nil : (o : Option (List ByteString)) → option_map (λ more. [] ++ more) o ≡ o
 map-nil None = refl
 map-nil (Some ns) = refl
 
-map-more : (names : List Word) (name : Word) (o : Option (List Word)) → option_map (λ more. names ++ more) (option_map (λ ns. name ∷ ns) o) ≡ option_map (λ more. (names ++ name ∷ []) ++ more) o
+map-more : (names : List ByteString) (name : ByteString) (o : Option (List ByteString)) → option_map (λ more. names ++ more) (option_map (λ ns. name ∷ ns) o) ≡ option_map (λ more. (names ++ name ∷ []) ++ more) o
 map-more names name None = refl
 map-more names name (Some ns) = ap Some (sym (append_assoc names (name ∷ []) ns))
 
@@ -111,7 +111,7 @@ front-more text rest i b h e = rw (add-one, take-suc text i b h, ← e, append_a
 back-more : (text : List ℕ) (i b : ℕ) → i < length text → b ≡ get_or text i b → drop i text ≡ b ∷ drop (i + 1) text
 back-more text i b h e = drop-cons text i b h ∙ (rw (← e, add-one) refl)
 
-reads-more : (text : List ℕ) (i b : ℕ) (mode : PathMode) (name : Word) (names : List Word) (mv : PathMove) → i < length text → b ≡ get_or text i b → move_of mode (is_empty name) b ≡ mv → HasRead text i mode name names → (rest : List ℕ) → path_names (take (i + 1) text ++ rest) ≡ option_map (λ more. names ++ more) (carry mv name b (λ m n. names_from m n rest))
+reads-more : (text : List ℕ) (i b : ℕ) (mode : PathMode) (name : ByteString) (names : List ByteString) (mv : PathMove) → i < length text → b ≡ get_or text i b → move_of mode (is_empty name) b ≡ mv → HasRead text i mode name names → (rest : List ℕ) → path_names (take (i + 1) text ++ rest) ≡ option_map (λ more. names ++ more) (carry mv name b (λ m n. names_from m n rest))
 reads-more text i b mode name names mv h e is r rest =
     ap path_names (front-more text rest i b h e) ∙ r.reads (b ∷ rest) ∙ ap (λ v. option_map (λ more. names ++ more) (carry v name b (λ m n. names_from m n rest))) is
 
@@ -137,16 +137,16 @@ read-more text i b old new Ends h e is m r = rw (m.1, m.2, m.3) (record {
 })
 
 -- a name that ends is a text
-pub ended-utf8 : (text : List ℕ) (i b : ℕ) (mode : PathMode) (name : Word) (names : List Word) → i < length text → b ≡ get_or text i b → HasRead text i mode name names → move_of mode (is_empty name) b ≡ Ends → IsUtf8 name
+pub ended-utf8 : (text : List ℕ) (i b : ℕ) (mode : PathMode) (name : ByteString) (names : List ByteString) → i < length text → b ≡ get_or text i b → HasRead text i mode name names → move_of mode (is_empty name) b ≡ Ends → IsUtf8 name
 ended-utf8 text i b mode name names h e r is =
     utf8-left name (drop (i + 1) text) b (ends-low mode (is_empty name) b is) (rw (back-more text i b h e) at r.utf8)
 
 -- ---- some path goes on from each place
-not-empty : (name : Word) (b : ℕ) → is_empty (name ++ b ∷ []) ≡ false
+not-empty : (name : ByteString) (b : ℕ) → is_empty (name ++ b ∷ []) ≡ false
 not-empty [] b = refl
 not-empty (x ∷ name) b = refl
 
-pub completes : (mode : PathMode) (name : Word) → (rest : List ℕ) × IsTrue (is_some (names_from mode name rest))
+pub completes : (mode : PathMode) (name : ByteString) → (rest : List ℕ) × IsTrue (is_some (names_from mode name rest))
 completes Start name = (97 ∷ [], refl)
 completes Name name = (97 ∷ [], refl)
 completes Bare name = ([], refl)
@@ -154,16 +154,16 @@ completes Quoted name = (97 ∷ 34 ∷ [], rw not-empty refl)
 completes Escaped name = (34 ∷ 34 ∷ [], rw not-empty refl)
 completes Closed name = ([], refl)
 
-some-map : (f : List Word → List Word) (o : Option (List Word)) → IsTrue (is_some o) → IsTrue (is_some (option_map f o))
+some-map : (f : List ByteString → List ByteString) (o : Option (List ByteString)) → IsTrue (is_some o) → IsTrue (is_some (option_map f o))
 some-map f None h = h
 some-map f (Some ns) h = h
 
-pub read-begins : (text : List ℕ) (i : ℕ) (mode : PathMode) (name : Word) (names : List Word) → HasRead text i mode name names → BeginsPath (take i text)
+pub read-begins : (text : List ℕ) (i : ℕ) (mode : PathMode) (name : ByteString) (names : List ByteString) → HasRead text i mode name names → BeginsPath (take i text)
 read-begins text i mode name names r = let c = completes mode name in
     (c.0, rw (r.reads c.0) (some-map (λ more. names ++ more) (names_from mode name c.0) c.1))
 
 -- ---- a byte that is refused, and the end
-pub read-refused : (text : List ℕ) (i b : ℕ) (mode : PathMode) (name : Word) (names : List Word) → i < length text → b ≡ get_or text i b → move_of mode (is_empty name) b ≡ Refused → HasRead text i mode name names → (path_names text ≡ None) × IsLongestBeginning text i
+pub read-refused : (text : List ℕ) (i b : ℕ) (mode : PathMode) (name : ByteString) (names : List ByteString) → i < length text → b ≡ get_or text i b → move_of mode (is_empty name) b ≡ Refused → HasRead text i mode name names → (path_names text ≡ None) × IsLongestBeginning text i
 read-refused text i b mode name names h e is r = (
   ap path_names (sym (take-append-drop (i + 1) text)) ∙ reads-more text i b mode name names Refused h e is r (drop (i + 1) text),
   record {
@@ -172,7 +172,7 @@ read-refused text i b mode name names h e is r = (
   },
 )
   where
-    none-begins : {o : Option (List Word)} → o ≡ None → IsTrue (is_some o) → ⊥
+    none-begins : {o : Option (List ByteString)} → o ≡ None → IsTrue (is_some o) → ⊥
     none-begins e h = grind (arith, e, h)
 
 pub moved-refused : (mv : PathMove) (old new : PathReader) (b : ℕ) → Moved mv old new b false → mv ≡ Refused
@@ -182,14 +182,14 @@ moved-refused (Passes mode) old new b m = absurd (grind arith)
 moved-refused Ends old new b m = absurd (grind arith)
 
 -- at the end of the text
-pub read-all : (text : List ℕ) (i : ℕ) (mode : PathMode) (name : Word) (names : List Word) → length text ≤ i → HasRead text i mode name names → path_names text ≡ option_map (λ more. names ++ more) (names_from mode name [])
+pub read-all : (text : List ℕ) (i : ℕ) (mode : PathMode) (name : ByteString) (names : List ByteString) → length text ≤ i → HasRead text i mode name names → path_names text ≡ option_map (λ more. names ++ more) (names_from mode name [])
 read-all text i mode name names h r = ap path_names (sym (append-nil text) ∙ ap (λ t. t ++ []) (sym (take_all i text h))) ∙ r.reads []
 
-pub read-unended : (text : List ℕ) (i : ℕ) (mode : PathMode) (name : Word) (names : List Word) → i ≡ length text → ends_path mode ≡ false → HasRead text i mode name names → (path_names text ≡ None) × IsLongestBeginning text (length text)
+pub read-unended : (text : List ℕ) (i : ℕ) (mode : PathMode) (name : ByteString) (names : List ByteString) → i ≡ length text → ends_path mode ≡ false → HasRead text i mode name names → (path_names text ≡ None) × IsLongestBeginning text (length text)
 read-unended text i mode name names h not_yet r = (
   read-all text i mode name names (omega (arith, h)) r ∙ (rw not_yet refl),
   record { begins = subst (λ n. BeginsPath (take n text)) h (read-begins text i mode name names r); longest = λ l p. absurd (omega (arith, l)) },
 )
 
-pub read-ended : (text : List ℕ) (i : ℕ) (mode : PathMode) (name : Word) (names : List Word) → i ≡ length text → ends_path mode ≡ true → HasRead text i mode name names → path_names text ≡ Some (names ++ name ∷ [])
+pub read-ended : (text : List ℕ) (i : ℕ) (mode : PathMode) (name : ByteString) (names : List ByteString) → i ≡ length text → ends_path mode ≡ true → HasRead text i mode name names → path_names text ≡ Some (names ++ name ∷ [])
 read-ended text i mode name names h done r = read-all text i mode name names (omega (arith, h)) r ∙ (rw done refl)

@@ -1,13 +1,13 @@
 -- Fields with one value more.
 use Rattle.std.proofs.Common.{◌≡◌, max, Bool, true, false, List, [], ◌∷◌, IsTrue, arith, refl, sym, ap}
 use Rattle.vx_value.specs.Datum.{Datum, NamedDatum, depth, named_depth, named_of}
-use Rattle.vx_value.specs.Texts.{Word, same_text, text_lt}
+use Rattle.vx_value.specs.Texts.{ByteString, same_text, text_lt}
 use Rattle.vx_value.specs.Events.{others_depth, with_field, names_rise}
 use Rattle.vx_value.proofs.Order.{less_not_same, less_or, same_text-true}
 use Rattle.vx_value.proofs.Depths.{others_depth-past}
 
 -- what is true by each of the three ways in which a field stands to a name
-pub ways : (P : List NamedDatum → Type 0) (f : NamedDatum) (fs : List NamedDatum) (name : Word) (value : Datum) → (text_lt f.name name ≡ true → P (f ∷ with_field fs name value)) → (text_lt f.name name ≡ false → same_text f.name name ≡ true → P (record { name = name; value = value } ∷ fs)) → (text_lt f.name name ≡ false → same_text f.name name ≡ false → P (record { name = name; value = value } ∷ f ∷ fs)) → P (with_field (f ∷ fs) name value)
+pub ways : (P : List NamedDatum → Type 0) (f : NamedDatum) (fs : List NamedDatum) (name : ByteString) (value : Datum) → (text_lt f.name name ≡ true → P (f ∷ with_field fs name value)) → (text_lt f.name name ≡ false → same_text f.name name ≡ true → P (record { name = name; value = value } ∷ fs)) → (text_lt f.name name ≡ false → same_text f.name name ≡ false → P (record { name = name; value = value } ∷ f ∷ fs)) → P (with_field (f ∷ fs) name value)
 ways P f fs name value less same more = by_order (text_lt f.name name) (same_text f.name name) refl refl
   where
     by_order : (b s : Bool) → text_lt f.name name ≡ b → same_text f.name name ≡ s → P (with_field (f ∷ fs) name value)
@@ -16,7 +16,7 @@ ways P f fs name value less same more = by_order (text_lt f.name name) (same_tex
     by_order false false h k = rw (h, k) (more h k)
 
 -- the depth of fields with a value under a name
-pub with_depth : (fs : List NamedDatum) (name : Word) (value : Datum) → IsTrue (names_rise fs) → named_depth (named_of (with_field fs name value)) ≡ max (depth value) (others_depth fs name)
+pub with_depth : (fs : List NamedDatum) (name : ByteString) (value : Datum) → IsTrue (names_rise fs) → named_depth (named_of (with_field fs name value)) ≡ max (depth value) (others_depth fs name)
 with_depth [] name value rise = omega arith
 with_depth (f ∷ fs) name value rise = let later = with_depth fs name value in
     ways (λ gs. named_depth (named_of gs) ≡ max (depth value) (others_depth (f ∷ fs) name)) f fs name value
@@ -36,11 +36,11 @@ with_depth (f ∷ fs) name value rise = let later = with_depth fs name value in
         ap (λ n. max (depth value) n) (sym (others_depth-past g gs name (rw e at less) rest))
 
 -- the first name of fields with a value under a name
-abbrev first_after : Word → List NamedDatum → Bool
+abbrev first_after : ByteString → List NamedDatum → Bool
 first_after low [] = true
 first_after low (f ∷ fs) = text_lt low f.name
 
-after_first : (low : Word) (fs : List NamedDatum) (name : Word) (value : Datum) → text_lt low name ≡ true → first_after low fs ≡ true → first_after low (with_field fs name value) ≡ true
+after_first : (low : ByteString) (fs : List NamedDatum) (name : ByteString) (value : Datum) → text_lt low name ≡ true → first_after low fs ≡ true → first_after low (with_field fs name value) ≡ true
 after_first low [] name value h k = h
 after_first low (f ∷ fs) name value h k =
     ways (λ gs. first_after low gs ≡ true) f fs name value (λ _. k) (λ _ _. h) (λ _ _. h)
@@ -58,7 +58,7 @@ rise-tail f [] r = r
 rise-tail f (g ∷ gs) r = grind arith
 
 -- fields with a value under a name keep their names rising
-pub names_rise-with : (fs : List NamedDatum) (name : Word) (value : Datum) → IsTrue (names_rise fs) → IsTrue (names_rise (with_field fs name value))
+pub names_rise-with : (fs : List NamedDatum) (name : ByteString) (value : Datum) → IsTrue (names_rise fs) → IsTrue (names_rise (with_field fs name value))
 names_rise-with [] name value rise = rise
 names_rise-with (f ∷ fs) name value rise = let later = names_rise-with fs name value (rise-tail f fs rise) in
     ways (λ gs. IsTrue (names_rise gs)) f fs name value

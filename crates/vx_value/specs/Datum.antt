@@ -1,6 +1,6 @@
 -- What a value is, as contracts see it. Its constructors have the names of the variants of `Value`.
 use Rattle.std.specs.Prelude.{ℕ, suc, max, Bool, ℤ, List, [], ◌∷◌}
-use Rattle.vx_value.specs.Texts.{Word}
+use Rattle.vx_value.specs.Texts.{ByteString}
 
 mutual
   -- a value
@@ -25,7 +25,7 @@ mutual
 
 -- a name and its value
 pub record NamedDatum : Type 0 where
-  pub name : Word
+  pub name : ByteString
   pub value : Datum
 
 -- the values of a list, as a value of kind Items has them

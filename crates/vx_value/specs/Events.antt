@@ -1,15 +1,15 @@
 -- Names with values in order: what is under a name or a path, and a value put there.
 use Rattle.std.specs.Prelude.{ℕ, ◌<◌, max, length, take, IsTrue, not, ◌||◌, suc, zero, Bool, true, false, Option, Some, None, List, [], ◌∷◌, ◌&&◌, if◌then◌else◌}
 use Rattle.vx_value.specs.Datum.{Datum, Null, Truth, Whole, Spelled, Words, Items, Fields, NamedDatum, named_of, named_list, depth}
-use Rattle.vx_value.specs.Texts.{Word, same_text, text_lt}
+use Rattle.vx_value.specs.Texts.{ByteString, same_text, text_lt}
 
 -- the value under a name, if there is one
-abbrev pub value_under : List NamedDatum → Word → Option Datum
+abbrev pub value_under : List NamedDatum → ByteString → Option Datum
 value_under [] name = None
 value_under (field ∷ rest) name = if same_text field.name name then Some field.value else value_under rest name
 
 -- whether the last name comes before a text, or there is no name
-abbrev pub last_below : List NamedDatum → Word → Bool
+abbrev pub last_below : List NamedDatum → ByteString → Bool
 last_below [] name = true
 last_below (field ∷ []) name = text_lt field.name name
 last_below (field ∷ next ∷ rest) name = last_below (next ∷ rest) name
@@ -47,13 +47,13 @@ is_other (Some (Items ds)) = true
 is_other (Some (Fields fs)) = false
 
 -- the value at a path of names, if there is one
-abbrev pub value_at : List NamedDatum → List Word → Option Datum
+abbrev pub value_at : List NamedDatum → List ByteString → Option Datum
 value_at fields [] = None
 value_at fields (name ∷ []) = value_under fields name
 value_at fields (name ∷ next ∷ rest) = value_at (fields_in (value_under fields name)) (next ∷ rest)
 
 -- fields with the value under a name, at its place by the names' bytes
-abbrev pub with_field : List NamedDatum → Word → Datum → List NamedDatum
+abbrev pub with_field : List NamedDatum → ByteString → Datum → List NamedDatum
 with_field [] name value = record { name = name; value = value } ∷ []
 with_field (field ∷ rest) name value =
     if text_lt field.name name then field ∷ with_field rest name value
@@ -61,7 +61,7 @@ with_field (field ∷ rest) name value =
     else record { name = name; value = value } ∷ field ∷ rest)
 
 -- fields with the value at a path, and with the fields on the way there
-abbrev pub put_at : List NamedDatum → List Word → Datum → List NamedDatum
+abbrev pub put_at : List NamedDatum → List ByteString → Datum → List NamedDatum
 put_at fields [] value = fields
 put_at fields (name ∷ []) value = with_field fields name value
 put_at fields (name ∷ next ∷ rest) value =
@@ -73,33 +73,33 @@ one_more zero = 0
 one_more (suc n) = suc (suc n)
 
 -- how many names the shortest proper prefix of a path has that holds another value than fields, or 0 with none
-abbrev pub blocked_names : List NamedDatum → List Word → ℕ
+abbrev pub blocked_names : List NamedDatum → List ByteString → ℕ
 blocked_names fields [] = 0
 blocked_names fields (name ∷ []) = 0
 blocked_names fields (name ∷ next ∷ rest) =
     if is_other (value_under fields name) then 1 else one_more (blocked_names (fields_in (value_under fields name)) (next ∷ rest))
 
 -- the depth of the deepest value under another name, or 0 with none
-abbrev pub others_depth : List NamedDatum → Word → ℕ
+abbrev pub others_depth : List NamedDatum → ByteString → ℕ
 others_depth [] name = 0
 others_depth (field ∷ rest) name = if same_text field.name name then others_depth rest name else max (depth field.value) (others_depth rest name)
 
 -- what stands under a name once a value is put at the rest of a path behind it
-abbrev pub put_in : Option Datum → List Word → Datum → Datum
+abbrev pub put_in : Option Datum → List ByteString → Datum → Datum
 put_in held [] value = value
 put_in held (name ∷ rest) value = Fields (named_of (put_at (fields_in held) (name ∷ rest) value))
 
 -- a path's first names, and not all, lead to a value of another kind than fields
-pub record IsBlocked (fields : List NamedDatum) (path : List Word) (names : ℕ) : Type 0 where
+pub record IsBlocked (fields : List NamedDatum) (path : List ByteString) (names : ℕ) : Type 0 where
   pub within : names < length path
   pub other : IsTrue (is_other (value_at fields (take names path)))
 
 -- no first names of a path lead to a value of another kind than fields
-abbrev pub IsOpen : List NamedDatum → List Word → Type 0
+abbrev pub IsOpen : List NamedDatum → List ByteString → Type 0
 IsOpen fields path = (names : ℕ) → IsBlocked fields path names → ⊥
 
 -- whether two paths part: neither leads through the other
-abbrev pub parts : List Word → List Word → Bool
+abbrev pub parts : List ByteString → List ByteString → Bool
 parts [] q = false
 parts (name ∷ p) [] = false
 parts (name ∷ p) (other ∷ q) = not (same_text name other) || parts p q

@@ -5,7 +5,7 @@ use Rattle.std.specs.declared.cmp.Ordering.TheVariants.{Less, Equal, Greater}
 use Rattle.std.specs.Ordering.{ordering_then, nat_cmp, int_cmp, bool_cmp}
 use Rattle.std.specs.Cmp.Lexicographic.{slice_cmp}
 use Rattle.vx_value.specs.Datum.{Datum, Null, Truth, Whole, Spelled, Words, Items, Fields, Data, no_data, datum, NamedData, no_named, named}
-use Rattle.vx_value.specs.Texts.{Word}
+use Rattle.vx_value.specs.Texts.{ByteString}
 
 -- which variant a value is, counted from 0
 abbrev pub kind_of : Datum → ℕ
@@ -18,7 +18,7 @@ kind_of (Items ds) = 5
 kind_of (Fields ns) = 6
 
 -- the order of texts by their bytes
-abbrev pub text_cmp : Word → Word → Ordering
+abbrev pub text_cmp : ByteString → ByteString → Ordering
 text_cmp v w = slice_cmp nat_cmp v w
 
 abbrev mutual

@@ -1,6 +1,6 @@
 -- The texts of paths.
 use Rattle.std.specs.Prelude.{◌≡◌, ℕ, ◌+◌, ◌<◌, ◌==◌, ◌&&◌, ◌||◌, ◌++◌, nat_le, Bool, true, false, Option, Some, None, IsTrue, is_some, option_map, List, [], ◌∷◌, length, take, if◌then◌else◌, ⊤}
-use Rattle.vx_value.specs.Texts.{Word, is_empty}
+use Rattle.vx_value.specs.Texts.{ByteString, is_empty}
 use Rattle.vx_value.specs.declared.path_mode.PathMode.{PathMode}
 use Rattle.vx_value.specs.declared.path_mode.PathMode.TheVariants.{Start, Name, Bare, Quoted, Escaped, Closed}
 use Rattle.vx_value.specs.declared.path_mode.PathMove.{PathMove}
@@ -40,19 +40,19 @@ ends_path Escaped = false
 ends_path Closed = true
 
 -- the names from a byte on, by what it does
-abbrev pub carry : PathMove → Word → ℕ → (PathMode → Word → Option (List Word)) → Option (List Word)
+abbrev pub carry : PathMove → ByteString → ℕ → (PathMode → ByteString → Option (List ByteString)) → Option (List ByteString)
 carry Refused name b further = None
 carry (Adds mode) name b further = further mode (name ++ b ∷ [])
 carry (Passes mode) name b further = further mode name
 carry Ends name b further = option_map (λ names. name ∷ names) (further Name [])
 
 -- the names that the rest of a path has, at a place in it and with the bytes of the name that has begun; none where it is no such rest
-abbrev pub names_from : PathMode → Word → List ℕ → Option (List Word)
+abbrev pub names_from : PathMode → ByteString → List ℕ → Option (List ByteString)
 names_from mode name [] = if ends_path mode then Some (name ∷ []) else None
 names_from mode name (b ∷ text) = carry (move_of mode (is_empty name) b) name b (λ m n. names_from m n text)
 
 -- the names that a text has as a path, if it is one
-abbrev pub path_names : List ℕ → Option (List Word)
+abbrev pub path_names : List ℕ → Option (List ByteString)
 path_names text = names_from Start [] text
 
 -- some path begins so
@@ -67,5 +67,5 @@ pub record IsLongestBeginning (text : List ℕ) (at : ℕ) : Type 0 where
 -- when each fault comes
 abbrev pub IsPathFault : List ℕ → PathFault → Type 0
 IsPathFault text (Syntax at) = (path_names text ≡ None) × IsLongestBeginning text at
-IsPathFault text Long = (names : List Word) × (path_names text ≡ Some names) × (31 < length names)
+IsPathFault text Long = (names : List ByteString) × (path_names text ≡ Some names) × (31 < length names)
 IsPathFault text WantOfMemory = ⊤

@@ -22,7 +22,7 @@ pub struct Event {
 pub type EventList = ItemList<Event>;
 
 impl Event {
-    ghost use Rattle.vx_value.specs.Texts.{Word};
+    ghost use Rattle.vx_value.specs.Texts.{ByteString};
     ghost use Rattle.vx_value.specs.Datum.{named_of};
     ghost use Rattle.vx_value.specs.Orders.{named_cmp};
     ghost use Rattle.vx_value.specs.Values.{datum_of};
@@ -53,7 +53,7 @@ impl Event {
         ensures ok { OnOk result
             (self.new.fields ≡ put_at self.old.fields path.now (datum_of value)) }
         ensures there { OnOk result (value_at self.new.fields path.now ≡ Some (datum_of value)) }
-        ensures kept { OnOk result ((q : List Word) → IsTrue (parts path.now q) →
+        ensures kept { OnOk result ((q : List ByteString) → IsTrue (parts path.now q) →
             value_at self.new.fields q ≡ value_at self.old.fields q) }
         ensures fits { OnOk result (fields_depth self.new.fields ≤ 32) }
         ensures blocked { (n : ℕ) →

@@ -1,8 +1,8 @@
-use Rattle.vx_examples.proofs.TransformRefusals.{never_answer_at_home, never_answer_of_a_sink, never_answer_that_loses, never_answer_that_doubles, never_answer_of_another_copy, never_answer_in_another_order, never_filter_that_keeps, never_lease_owing_an_answer, never_lease_owing_a_discard, never_second_answer, never_filtered_though_passed, never_take_behind_an_answer, never_split_of_another_port, never_split_of_another_event, never_tick_of_a_filter, never_lease_of_an_idle_transform, never_retired_with_a_kept_parcel, never_unread_though_a_way_is_read, never_split_of_an_unread_port, never_no_such_port, never_lease_before_the_tick, never_tick_at_another_moment, never_second_tick, never_flush_too_soon, never_joined_in_another_order, never_joined_with_another_event, never_young_group_put_out, never_split_of_a_part, never_notice_of_another_batch, never_other_lines, never_lines_past_the_count, never_refused_by_a_hole, never_push_past_the_first_stage, never_dropped_with_room_behind, never_take_past_the_first_stage, never_answer_after_an_abandon, never_tick_after_an_abandon, never_tick_at_home, never_flush_with_contents, never_ended_with_lines_left, never_lines_of_another_stream, never_bytes_into_a_hole, never_host_that_loses, never_repeat_put_out, never_second_put_out, never_host_without_a_copy, never_host_on_no_port, never_host_past_the_last_port, never_two_ticks, never_take_behind_a_tick, never_flush_that_keeps, never_ended_on_another_stream, never_hasty_retry, never_restless_lease}
+use Rattle.vx_examples.proofs.TransformRefusals.{never_answer_unleased, never_answer_of_a_sink, never_answer_that_loses, never_answer_that_doubles, never_answer_of_another_copy, never_answer_in_another_order, never_filter_that_keeps, never_lease_owing_an_answer, never_lease_owing_a_discard, never_second_answer, never_filtered_though_passed, never_take_behind_an_answer, never_split_of_another_port, never_split_of_another_event, never_tick_of_a_filter, never_lease_of_an_idle_transform, never_retired_with_a_kept_parcel, never_unread_though_a_way_is_read, never_split_of_an_unread_port, never_no_such_port, never_lease_before_the_tick, never_tick_at_another_moment, never_second_tick, never_flush_too_soon, never_joined_in_another_order, never_joined_with_another_event, never_young_group_put_out, never_split_of_a_part, never_notice_of_another_batch, never_other_lines, never_lines_past_the_count, never_refused_by_a_blackhole, never_push_past_the_first_stage, never_dropped_with_room_behind, never_take_past_the_first_stage, never_answer_after_an_abandon, never_tick_after_an_abandon, never_tick_unleased, never_flush_with_contents, never_ended_with_lines_left, never_lines_of_another_stream, never_bytes_into_a_blackhole, never_host_that_loses, never_repeat_put_out, never_second_put_out, never_host_without_a_copy, never_host_on_no_port, never_host_past_the_last_port, never_two_ticks, never_take_behind_a_tick, never_flush_that_keeps, never_ended_on_another_stream, never_hasty_retry, never_restless_lease}
 use Rattle.vx_examples.proofs.refused_transforms.Goals as goal
 
-pub returns-clause-answer_at_home : goal.returns-clause-answer_at_home
-returns-clause-answer_at_home c = never_answer_at_home
+pub returns-clause-answer_unleased : goal.returns-clause-answer_unleased
+returns-clause-answer_unleased c = never_answer_unleased
 
 pub returns-clause-answer_of_a_sink : goal.returns-clause-answer_of_a_sink
 returns-clause-answer_of_a_sink c = never_answer_of_a_sink
@@ -94,8 +94,8 @@ returns-clause-other_lines c = never_other_lines
 pub returns-clause-lines_past_the_count : goal.returns-clause-lines_past_the_count
 returns-clause-lines_past_the_count c = never_lines_past_the_count
 
-pub returns-clause-refused_by_a_hole : goal.returns-clause-refused_by_a_hole
-returns-clause-refused_by_a_hole c = never_refused_by_a_hole
+pub returns-clause-refused_by_a_blackhole : goal.returns-clause-refused_by_a_blackhole
+returns-clause-refused_by_a_blackhole c = never_refused_by_a_blackhole
 
 pub returns-clause-push_past_the_first_stage : goal.returns-clause-push_past_the_first_stage
 returns-clause-push_past_the_first_stage c = never_push_past_the_first_stage
@@ -112,8 +112,8 @@ returns-clause-answer_after_an_abandon c = never_answer_after_an_abandon
 pub returns-clause-tick_after_an_abandon : goal.returns-clause-tick_after_an_abandon
 returns-clause-tick_after_an_abandon c = never_tick_after_an_abandon
 
-pub returns-clause-tick_at_home : goal.returns-clause-tick_at_home
-returns-clause-tick_at_home c = never_tick_at_home
+pub returns-clause-tick_unleased : goal.returns-clause-tick_unleased
+returns-clause-tick_unleased c = never_tick_unleased
 
 pub returns-clause-flush_with_contents : goal.returns-clause-flush_with_contents
 returns-clause-flush_with_contents c = never_flush_with_contents
@@ -124,8 +124,8 @@ returns-clause-ended_with_lines_left c = never_ended_with_lines_left
 pub returns-clause-lines_of_another_stream : goal.returns-clause-lines_of_another_stream
 returns-clause-lines_of_another_stream c = never_lines_of_another_stream
 
-pub returns-clause-bytes_into_a_hole : goal.returns-clause-bytes_into_a_hole
-returns-clause-bytes_into_a_hole c = never_bytes_into_a_hole
+pub returns-clause-bytes_into_a_blackhole : goal.returns-clause-bytes_into_a_blackhole
+returns-clause-bytes_into_a_blackhole c = never_bytes_into_a_blackhole
 
 pub returns-clause-host_that_loses : goal.returns-clause-host_that_loses
 returns-clause-host_that_loses c = never_host_that_loses

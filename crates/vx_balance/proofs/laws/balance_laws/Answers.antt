@@ -1,4 +1,4 @@
-use Rattle.vx_balance.proofs.Bearing.{none_borne}
+use Rattle.vx_balance.proofs.Creating.{none_created}
 use Rattle.vx_balance.proofs.Holding.{one_held, oldest_held}
 use Rattle.vx_balance.proofs.Lives.{counts_live}
 use Rattle.vx_balance.proofs.Noting.{children_noted}
@@ -28,8 +28,8 @@ returns-clause-one c = one_held
 pub returns-clause-oldest : goal.returns-clause-oldest
 returns-clause-oldest c = oldest_held
 
-pub returns-clause-borne : goal.returns-clause-borne
-returns-clause-borne c = none_borne
+pub returns-clause-created : goal.returns-clause-created
+returns-clause-created c = none_created
 
 pub returns-clause-children : goal.returns-clause-children
 returns-clause-children c = children_noted

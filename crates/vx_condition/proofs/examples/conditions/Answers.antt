@@ -1,15 +1,15 @@
 use Rattle.std.proofs.Common.{◌≡◌, ◌≤◌, ◌++◌, List, [], ◌∷◌, codes, refl, lit≤, lit<, length, Some, inl, IsTrue}
 use Rattle.std.specs.List.{list_all}
 use Rattle.vx_value.specs.Paths.{path_names}
-use Rattle.vx_value.specs.Texts.{Word}
+use Rattle.vx_value.specs.Texts.{ByteString}
 use Rattle.vx_condition.specs.Grammar.{Then, IsPathText, is_blank}
 use Rattle.vx_condition.proofs.examples.conditions.Goals as goal
 
 -- a token and more, with blanks between
-then : {First More : Word → Type 0} {text : Word} (front blanks back : Word) → First front → IsTrue (list_all is_blank blanks) → More back → text ≡ front ++ (blanks ++ back) → Then First More text
+then : {First More : ByteString → Type 0} {text : ByteString} (front blanks back : ByteString) → First front → IsTrue (list_all is_blank blanks) → More back → text ≡ front ++ (blanks ++ back) → Then First More text
 then front blanks back first blank more whole = record { front = front; blanks = blanks; back = back; first = first; blank = blank; more = more; whole = whole }
 
-path : {names : List Word} (rest : Word) → path_names (46 ∷ rest) ≡ Some names → length names ≤ 31 → IsPathText names (46 ∷ rest)
+path : {names : List ByteString} (rest : ByteString) → path_names (46 ∷ rest) ≡ Some names → length names ≤ 31 → IsPathText names (46 ∷ rest)
 path rest named few = record { rest = rest; dot = refl; names = named; few = few }
 
 pub returns-clause-message_text : goal.returns-clause-message_text

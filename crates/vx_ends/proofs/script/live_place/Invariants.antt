@@ -1,10 +1,10 @@
 use Rattle.std.proofs.Common.{◌≡◌, ◌-◌, length}
-use Rattle.vx_ends.specs.Script.{progress_of, SameTold, upcoming}
+use Rattle.vx_ends.specs.Script.{progress_of, SameObserved, upcoming}
 use Rattle.vx_ends.proofs.script.live_place.Given as goal
 
 abbrev pub invariant-loop-place : goal.invariant-loop-place
 invariant-loop-place l = record {
-  past : SameTold (progress_of l.steps l.fn.from.step l.fn.from.offset).past (progress_of l.steps l.place.step l.place.offset).past;
+  past : SameObserved (progress_of l.steps l.fn.from.step l.fn.from.offset).past (progress_of l.steps l.place.step l.place.offset).past;
   rest : upcoming (progress_of l.steps l.fn.from.step l.fn.from.offset).past (progress_of l.steps l.place.step l.place.offset).rest
       ≡ upcoming (progress_of l.steps l.fn.from.step l.fn.from.offset).past (progress_of l.steps l.fn.from.step l.fn.from.offset).rest;
 }

@@ -13,7 +13,7 @@ checks_at-requires-clause-within g c = (merger_among c.requires.stands c.args.me
 
 pub loop-k-preserved : goal.loop-k-preserved
 loop-k-preserved g c =
-    let books = c.args.books.now in
+    let engine = c.args.engine.now in
     let mergers = c.args.mergers.now in
     let k = c.loop-k.k in
     let before = c.loop-k.soonest in
@@ -21,13 +21,13 @@ loop-k-preserved g c =
     let among = merger_among c.requires.stands mergers c.requires.mergers k _ (number_there mergers k c.loop-k-test.true) in
     let is = c.sooner-soonest.ensures in
     record {
-      checks = subst (λ (o : Option ℕ). IfSome o (SomeoneChecks books)) (sym is)
-          (check_more books before found c.loop-k.invariant.checks (check_of books _ among.0 found c.checks_at.ensures.due c.checks_at.ensures.joins));
-      only = subst (λ (o : Option ℕ). (j : ℕ) → j < k + 1 → IfSome (slice_get mergers j) (ComesBy books o)) (sym is)
-          (found_more (ComesBy books _) mergers k c.loop-k-test.true
+      checks = subst (λ (o : Option ℕ). IfSome o (SomeoneChecks engine)) (sym is)
+          (check_more engine before found c.loop-k.invariant.checks (check_of engine _ among.0 found c.checks_at.ensures.due c.checks_at.ensures.joins));
+      only = subst (λ (o : Option ℕ). (j : ℕ) → j < k + 1 → IfSome (slice_get mergers j) (ComesBy engine o)) (sym is)
+          (found_more (ComesBy engine _) mergers k c.loop-k-test.true
           (λ settled usable fit now ready. by_second before found now (c.checks_at.ensures.only settled usable among.1 fit now ready))
           (λ j l. IfSome_then (slice_get mergers j) (c.loop-k.invariant.only j l) (λ i by settled usable fit now ready. by_first before found now (by settled usable fit now ready))));
     }
 
 pub returns-clause-only : goal.returns-clause-only
-returns-clause-only g c = found_all (ComesBy c.args.books.now c.loop-k.soonest) c.args.mergers.now c.loop-k.k (omega arith) c.loop-k.invariant.only
+returns-clause-only g c = found_all (ComesBy c.args.engine.now c.loop-k.soonest) c.args.mergers.now c.loop-k.k (omega arith) c.loop-k.invariant.only

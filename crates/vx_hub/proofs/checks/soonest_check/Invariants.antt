@@ -5,6 +5,6 @@ use Rattle.vx_hub.proofs.checks.soonest_check.Given as goal
 
 abbrev pub invariant-loop-k : goal.invariant-loop-k
 invariant-loop-k g l = record {
-  checks : IfSome l.soonest (SomeoneChecks l.books);
-  only : (j : ℕ) → j < l.k → IfSome (slice_get l.mergers j) (ComesBy l.books l.soonest);
+  checks : IfSome l.soonest (SomeoneChecks l.engine);
+  only : (j : ℕ) → j < l.k → IfSome (slice_get l.mergers j) (ComesBy l.engine l.soonest);
 }

@@ -5,12 +5,12 @@ use Rattle.vx_hub.proofs.due.soonest.Goals as goal
 
 pub loop-i-preserved : goal.loop-i-preserved
 loop-i-preserved g c =
-    let books = c.args.books.now in
+    let engine = c.args.engine.now in
     let found = c.waits_until.ensures in
-    subst (λ (o : Option ℕ). IsSoonest books (c.loop-i.i + 1) o) (sym c.sooner-soonest.ensures)
-    (one_more books c.loop-i.i (omega arith) c.loop-i.soonest c.waits_until.result c.loop-i.invariant (record { waits = found.waits; settled = found.settled; open_at = found.open }))
+    subst (λ (o : Option ℕ). IsSoonest engine (c.loop-i.i + 1) o) (sym c.sooner-soonest.ensures)
+    (one_more engine c.loop-i.i (omega arith) c.loop-i.soonest c.waits_until.result c.loop-i.invariant (record { waits = found.waits; settled = found.settled; open_at = found.open }))
 
 pub returns : goal.returns
 returns g c =
-    let all : c.loop-i.i ≡ length c.args.books.now.seats = omega arith in
-    subst (λ (n : ℕ). IsSoonest c.args.books.now n c.loop-i.soonest) all c.loop-i.invariant
+    let all : c.loop-i.i ≡ length c.args.engine.now.states = omega arith in
+    subst (λ (n : ℕ). IsSoonest c.args.engine.now n c.loop-i.soonest) all c.loop-i.invariant

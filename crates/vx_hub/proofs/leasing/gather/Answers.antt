@@ -9,7 +9,7 @@ use Rattle.vx_hub.proofs.leasing.gather.Goals.{in-Judge, in_default}
 pub returns-then-takes_first : goal.returns-then-takes_first
 returns-then-takes_first g c =
     let out = c.collect.ensures in
-    let new = c.collect.new.books in
+    let new = c.collect.new.engine in
     let owes = owes_neither new.log c.args.i out.collecting.clear.settled in record {
       gathered = record {
         stands = out.stands;

@@ -19,4 +19,4 @@ lend-held-requires-clause-out g c = out_two c.lease-task.ensures.lent c.gather-j
 pub returns-clause-out : goal.returns-clause-out
 returns-clause-out g c = let lend = c.lend-held.ensures in
     handed c.lease-task.ensures.lent c.lend-held.result c.requires.stands c.requires.ready.alone c.requires.well c.requires.lent
-    c.gather-job.ensures.gathered lend.stands lend.lent lend.rooms lend.log lend.seats lend.run lend.held lend.room
+    c.gather-job.ensures.gathered lend.stands lend.lent lend.capacities lend.log lend.states lend.run lend.held lend.room

@@ -1,6 +1,6 @@
 use Rattle.std.proofs.Common.{◌∙◌, ap, arith}
 use Rattle.vx_plan.specs.declared.plan.Plan.{Plan}
-use Rattle.vx_hub.proofs.Kept.{ended_first, rooms_more}
+use Rattle.vx_hub.proofs.Kept.{ended_first, capacities_more}
 use Rattle.vx_hub.proofs.Listing.{component_at}
 use Rattle.vx_hub.proofs.making.make_places.Goals as goal
 
@@ -15,6 +15,6 @@ loop-component-preserved c =
     let there = component_at components c.as_slice-component-items.result.now c.loop-component.component-index c.component-item.result same c.loop-component-test.true c.component-item.is in
     record {
       holds = c.in-Ok.ensures.holds before.holds;
-      rooms = rooms_more components c.loop-component.places c.add_place.new.places c.component-item.result c.in-Ok.ensures.adds c.in-Ok.ensures.size (rw before.size there) before.rooms;
+      capacities = capacities_more components c.loop-component.places c.add_place.new.places c.component-item.result c.in-Ok.ensures.adds c.in-Ok.ensures.size (rw before.size there) before.capacities;
       size = omega (arith, before.size, c.in-Ok.ensures.size);
     }

@@ -13,11 +13,11 @@ can_merge-requires-clause-joins g c = (merger_among c.requires.stands c.args.mer
     (number_there c.args.mergers.now c.loop-k.k c.loop-k-test.true)).1
 
 pub loop-k-preserved : goal.loop-k-preserved
-loop-k-preserved g c = found_more (NoneMergesAt c.args.books.now c.args.now) c.args.mergers.now c.loop-k.k c.loop-k-test.true
+loop-k-preserved g c = found_more (NoneMergesAt c.args.engine.now c.args.now) c.args.mergers.now c.loop-k.k c.loop-k-test.true
     (record { unready = c.can_merge.ensures.unready c.if-can_merge.false; early = c.can_merge.ensures.early c.if-can_merge.false }) c.loop-k.invariant
 
 pub returns-clause-none : goal.returns-clause-none
-returns-clause-none g c = found_all (NoneMergesAt c.args.books.now c.args.now) c.args.mergers.now c.loop-k.k (omega arith) c.loop-k.invariant
+returns-clause-none g c = found_all (NoneMergesAt c.args.engine.now c.args.now) c.args.mergers.now c.loop-k.k (omega arith) c.loop-k.invariant
 
 pub returns-then-can_merge-clause-joins : goal.returns-then-can_merge-clause-joins
 returns-then-can_merge-clause-joins g c = (merger_among c.requires.stands c.args.mergers.now c.requires.mergers c.loop-k.k _

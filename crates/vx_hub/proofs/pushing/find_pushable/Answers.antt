@@ -4,7 +4,7 @@ use Rattle.vx_hub.proofs.pushing.find_pushable.Goals as goal
 
 pub returns-clause-none : goal.returns-clause-none
 returns-clause-none g c pass =
-    let below = oldest_below c.args.books.now.places c.args.i pass.target pass.child c.count_waiting-k-end.result
+    let below = oldest_below c.args.engine.now.places c.args.i pass.target pass.child c.count_waiting-k-end.result
     c.count_waiting-k-end.ensures.many pass.oldest in
     let past = c.loop-k-test.false in
     c.loop-k.invariant pass (omega (arith, below, past))

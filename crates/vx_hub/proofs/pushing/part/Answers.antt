@@ -20,5 +20,5 @@ returns-in-Ok-false g c =
 
 pub returns-in-Err-clause-reason : goal.returns-in-Err-clause-reason
 returns-in-Err-clause-reason g c =
-    split_reason c.requires.stands c.args.i c.in-Err.short c.requires.within c.requires.home c.requires.none_waits
+    split_reason c.requires.stands c.args.i c.in-Err.short c.requires.within c.requires.unleased c.requires.none_waits
     c.in-Err.ensures.short (c.split.ensures.unchanged (λ so. cc))

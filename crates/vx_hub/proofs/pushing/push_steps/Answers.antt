@@ -12,7 +12,7 @@ pub returns-in-None-clause-moves : goal.returns-in-None-clause-moves
 returns-in-None-clause-moves g c = grew_by_now c.loop.invariant.begun (rw c.in-None.is at c.in_ok-entered.ensures.none) c.move_one.ensures.moved
 
 pub returns-clause-moves : goal.returns-clause-moves
-returns-clause-moves g c can = let all = c.loop-test.false in has_grown c.loop.counter c.args.books.now c.loop.books c.loop.invariant.begun (omega (arith, all))
+returns-clause-moves g c can = let all = c.loop-test.false in has_grown c.loop.counter c.args.engine.now c.loop.engine c.loop.invariant.begun (omega (arith, all))
 
 pub loop-preserved : goal.loop-preserved
 loop-preserved g c =
@@ -27,7 +27,7 @@ loop-preserved g c =
     let grew = rw c.in-Some.is at c.in_ok-entered.ensures.grew in record {
       moved = moved_both was.moved moved;
       going = kept.going ∙ was.going;
-      home = kept.out c.args.i ∙ was.home;
+      unleased = kept.out c.args.i ∙ was.unleased;
       entered = omega (arith, before, entered);
       few = omega (arith, few, one);
       begun = inr (omega (arith, longer, grew));

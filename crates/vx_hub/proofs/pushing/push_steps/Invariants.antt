@@ -7,10 +7,10 @@ use Rattle.vx_hub.proofs.pushing.push_steps.Given as goal
 
 abbrev pub invariant-loop : goal.invariant-loop
 invariant-loop g l = record {
-  moved : HasMoved g.P.Port.told l.i l.fn.books l.books;
-  going : abandoned l.books.log ≡ false;
-  home : is_out l.books.log l.i ≡ false;
-  entered : HaveEntered l.pushed l.fn.books.log l.books.log;
+  moved : HasMoved g.P.Port.observed l.i l.fn.engine l.engine;
+  going : abandoned l.engine.log ≡ false;
+  unleased : is_out l.engine.log l.i ≡ false;
+  entered : HaveEntered l.pushed l.fn.engine.log l.engine.log;
   few : l.pushed ≤ l.counter;
-  begun : HasBegun l.counter l.fn.books l.books;
+  begun : HasBegun l.counter l.fn.engine l.engine;
 }

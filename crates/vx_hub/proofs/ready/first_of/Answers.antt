@@ -7,5 +7,5 @@ pub returns-clause-none : goal.returns-clause-none
 returns-clause-none g c i within = c.loop-i.invariant i (omega (arith, within))
 
 pub loop-i-preserved : goal.loop-i-preserved
-loop-i-preserved g c = below_more (λ k. class_test c.args.class c.args.books.now.log k ≡ true → NoneFoundAt c.args.books.now
+loop-i-preserved g c = below_more (λ k. class_test c.args.class c.args.engine.now.log k ≡ true → NoneFoundAt c.args.engine.now
     c.args.now k) c.loop-i.i c.loop-i.invariant c.in_default.ensures.none

@@ -1,7 +1,7 @@
 use Rattle.std.proofs.Common.{◌≡◌, ℕ, ◌<◌, ◌∷◌, length, take, drop, get_or, arith, sym, subst}
 use Rattle.std.proofs.Math.Seq.{drop-cons}
 use Rattle.std.proofs.lemmas.Result.{IfOk-weaker}
-use Rattle.vx_value.specs.Texts.{Word}
+use Rattle.vx_value.specs.Texts.{ByteString}
 use Rattle.vx_json.specs.ModeViews.{stack_view}
 use Rattle.vx_json.specs.Walks.{LeadsOn, EndsInnermost, held_view}
 use Rattle.vx_json.proofs.walk.followed.Goals as goal
@@ -15,5 +15,5 @@ returns-then-ends-clause-leads c =
     let held = c.end.new.held in
     let some : 0 < length bytes = grind (arith, c.is_empty.ensures) in
     let whole : bytes ≡ get_or bytes 0 0 ∷ drop 1 bytes = drop-cons bytes 0 0 some in
-    IfOk-weaker c.end.result (λ n. (b : ℕ) (w : Word) → EndsInnermost st b → LeadsOn m st (take n (b ∷ w)) held su) _
+    IfOk-weaker c.end.result (λ n. (b : ℕ) (w : ByteString) → EndsInnermost st b → LeadsOn m st (take n (b ∷ w)) held su) _
     (λ n h. subst (λ w. LeadsOn m st (take n w) held su) (sym whole) (h (get_or bytes 0 0) (drop 1 bytes) (c.ends.ensures c.if-ends.true))) c.end.ensures.leads

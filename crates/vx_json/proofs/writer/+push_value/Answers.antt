@@ -3,7 +3,7 @@ use Rattle.vx_value.specs.Datum.{data_of, named_of, depth, data_depth, named_dep
 use Rattle.vx_value.specs.Values.{datum_of, named_datum}
 use Rattle.vx_value.proofs.Depths.{data_depth-bound, named_depth-bound}
 use Rattle.std.proofs.lemmas.Result.{err_from_is_err_and}
-use Rattle.vx_value.specs.Texts.{Word}
+use Rattle.vx_value.specs.Texts.{ByteString}
 use Rattle.vx_json.specs.Growth.{Keeps}
 use Rattle.vx_json.specs.Written.{written, separator, items_written, fields_written}
 use Rattle.vx_json.proofs.Commas.{items-more, fields-more, step}
@@ -33,7 +33,7 @@ push_items-returns-in_err-push_value-clause-err t c =
 pub push_fields-loop-i-preserved : goal.push_fields-loop-i-preserved
 push_fields-loop-i-preserved t c =
     let before : Keeps c.args.out.now c.push_separator.new.out = keeps-added c.args.out.now c.loop-i.out (separator c.loop-i.i) c.push_separator.new.out c.loop-i.invariant.kept c.in_ok-push_separator.ensures.ok in
-    let one : Word = fields_written (named_of (named_datum c.index-fields-i.result ∷ [])) in record {
+    let one : ByteString = fields_written (named_of (named_datum c.index-fields-i.result ∷ [])) in record {
       written =
           c.in_ok-push_field.ensures.ok
           ∙ ap (λ o. o ++ one) (c.in_ok-push_separator.ensures.ok ∙ ap (λ o. o ++ separator c.loop-i.i) c.loop-i.invariant.written)
@@ -45,7 +45,7 @@ push_fields-loop-i-preserved t c =
 pub push_items-loop-i-preserved : goal.push_items-loop-i-preserved
 push_items-loop-i-preserved t c =
     let before : Keeps c.args.out.now c.push_separator.new.out = keeps-added c.args.out.now c.loop-i.out (separator c.loop-i.i) c.push_separator.new.out c.loop-i.invariant.kept c.in_ok-push_separator.ensures.ok in
-    let one : Word = written (datum_of c.index-items-i.result) in record {
+    let one : ByteString = written (datum_of c.index-items-i.result) in record {
       written =
           c.in_ok-push_value.ensures.ok
           ∙ ap (λ o. o ++ one) (c.in_ok-push_separator.ensures.ok ∙ ap (λ o. o ++ separator c.loop-i.i) c.loop-i.invariant.written)

@@ -1,6 +1,6 @@
 use Rattle.std.proofs.Common.{◌∙◌, refl, sym}
 use Rattle.vx_record.specs.declared.entry.Entry.TheVariants.{Closed}
-use Rattle.vx_landing.proofs.Answering.{adds_step, for_own, home_still, leaves_both, may_shut, over_still, shut_so, spends_behind, spends_own}
+use Rattle.vx_landing.proofs.Answering.{adds_step, for_own, unleased_still, leaves_both, may_shut, over_still, shut_so, spends_behind, spends_own}
 use Rattle.vx_landing.proofs.ceasing.cease.Goals as goal
 use Rattle.vx_landing.proofs.ceasing.cease.Goals.{else-has_device-via-then-has_device+else-not-get, else-has_device-via-else-has_device}
 
@@ -18,11 +18,11 @@ returns-then-not-get-clause-leaves g c = leaves_both c.give_up.ensures.spent.lea
 pub returns-else-has_device-clause-only : goal.returns-else-has_device-clause-only
 returns-else-has_device-clause-only g c = spends_own c.give_up.ensures.spent
 
-pub returns-then-not-get-clause-home : goal.returns-then-not-get-clause-home
-returns-then-not-get-clause-home g c = rw c.close.ensures.steps.noted (home_still c.give_up.ensures.spent c.requires.home)
+pub returns-then-not-get-clause-unleased : goal.returns-then-not-get-clause-unleased
+returns-then-not-get-clause-unleased g c = rw c.close.ensures.steps.noted (unleased_still c.give_up.ensures.spent c.requires.unleased)
 
-pub returns-else-has_device-clause-home : goal.returns-else-has_device-clause-home
-returns-else-has_device-clause-home g c = home_still c.give_up.ensures.spent c.requires.home
+pub returns-else-has_device-clause-unleased : goal.returns-else-has_device-clause-unleased
+returns-else-has_device-clause-unleased g c = unleased_still c.give_up.ensures.spent c.requires.unleased
 
 pub returns-then-not-get-clause-behind : goal.returns-then-not-get-clause-behind
 returns-then-not-get-clause-behind g c =

@@ -7,20 +7,20 @@ use Rattle.vx_landing.proofs.landing.land_attempt.Goals as goal
 
 pub spend_all_held-requires-clause-kept : goal.spend_all_held-requires-clause-kept
 spend_all_held-requires-clause-kept g c =
-    let r = c.requires in kept_on c.args.books.now.places c.note_attempt.new.books.places c.args.i (rw r.stands.size r.within) c.note_attempt.ensures.leaves.rooms r.kept
+    let r = c.requires in kept_on c.args.engine.now.places c.note_attempt.new.engine.places c.args.i (rw r.stands.size r.within) c.note_attempt.ensures.leaves.capacities r.kept
 
 pub spend_all_held-requires-clause-may : goal.spend_all_held-requires-clause-may
 spend_all_held-requires-clause-may g c =
-    let mid = c.note_attempt.new.books in
+    let mid = c.note_attempt.new.engine in
     let steps = c.note_attempt.ensures.steps in
-    rw c.outcome_of.ensures (may_spend c.args.books.now.log mid.log c.args.i _ c.args.reply c.requires.stands.legal (sym c.decides-decided.ensures ∙ c.if-not-decided.false) steps.noted
-    (none_known g.P.Port.told mid steps.stands c.if-is_none.ensures))
+    rw c.outcome_of.ensures (may_spend c.args.engine.now.log mid.log c.args.i _ c.args.reply c.requires.stands.legal (sym c.decides-decided.ensures ∙ c.if-not-decided.false) steps.noted
+    (none_known g.P.Port.observed mid steps.stands c.if-is_none.ensures))
 
 pub returns-then-is_none : goal.returns-then-is_none
 returns-then-is_none g c =
-    let mid = c.note_attempt.new.books in
+    let mid = c.note_attempt.new.engine in
     let noted = c.note_attempt.ensures in
-    let going = rw noted.steps.noted at (unabandoned mid.log (none_known g.P.Port.told mid noted.steps.stands c.if-is_none.ensures)) in
+    let going = rw noted.steps.noted at (unabandoned mid.log (none_known g.P.Port.observed mid noted.steps.stands c.if-is_none.ensures)) in
     let spent = rw c.outcome_of.ensures at c.spend_all_held.ensures.spent in
     record {
       mid = mid;
@@ -37,9 +37,9 @@ returns-then-is_none g c =
 pub returns-else-is_none : goal.returns-else-is_none
 returns-else-is_none g c =
     let r = c.requires in
-    let mid = c.note_attempt.new.books in
+    let mid = c.note_attempt.new.engine in
     let noted = c.note_attempt.ensures in
-    let over = rw noted.steps.noted at (over_known g.P.Port.told mid noted.steps.stands c.if-is_none.ensures) in
+    let over = rw noted.steps.noted at (over_known g.P.Port.observed mid noted.steps.stands c.if-is_none.ensures) in
     record {
       mid = mid;
       noted = noted;
@@ -47,7 +47,7 @@ returns-else-is_none g c =
       over = λ _. refl;
       waits = λ _. refl;
       none = λ going last. cc;
-      kept = kept_on c.args.books.now.places mid.places c.args.i (rw r.stands.size r.within) noted.leaves.rooms r.kept;
+      kept = kept_on c.args.engine.now.places mid.places c.args.i (rw r.stands.size r.within) noted.leaves.capacities r.kept;
       stands = noted.steps.stands;
       only = noted.only;
     }
@@ -55,7 +55,7 @@ returns-else-is_none g c =
 pub returns-then-not-decided : goal.returns-then-not-decided
 returns-then-not-decided g c =
     let r = c.requires in
-    let mid = c.note_attempt.new.books in
+    let mid = c.note_attempt.new.engine in
     let noted = c.note_attempt.ensures in
     let waits = sym c.decides-decided.ensures ∙ c.if-not-decided.true in
     record {
@@ -65,7 +65,7 @@ returns-then-not-decided g c =
       over = λ _. refl;
       waits = λ _. refl;
       none = λ going last. cc;
-      kept = kept_on c.args.books.now.places mid.places c.args.i (rw r.stands.size r.within) noted.leaves.rooms r.kept;
+      kept = kept_on c.args.engine.now.places mid.places c.args.i (rw r.stands.size r.within) noted.leaves.capacities r.kept;
       stands = noted.steps.stands;
       only = noted.only;
     }

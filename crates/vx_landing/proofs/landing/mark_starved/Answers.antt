@@ -6,4 +6,4 @@ pub returns : goal.returns
 returns g c =
     let r = c.requires in
     let e = c.mark_starved.ensures in
-    record { stands = marked r.stands e.size (e.knows c.args.books.now.log r.stands.seats); log = refl; places = refl; run = refl; seats = e.starved }
+    record { stands = marked r.stands e.size (e.knows c.args.engine.now.log r.stands.states); log = refl; places = refl; run = refl; states = e.starved }

@@ -18,11 +18,11 @@ merge_taken-requires-clause-took g c = (c.requires.some c.if-not-took.false).giv
 
 pub act-requires-in-Ok-clause-merging : goal.act-requires-in-Ok-clause-merging
 act-requires-in-Ok-clause-merging g c =
-    merging_on c.args.i c.args.now c.args.books.now.log c.merge_taken.new.self.log c.merge_taken.ensures.only (merging_of c.requires.taking)
+    merging_on c.args.i c.args.now c.args.engine.now.log c.merge_taken.new.self.log c.merge_taken.ensures.only (merging_of c.requires.taking)
 
 pub returns-in-Ok-clause-only : goal.returns-in-Ok-clause-only
 returns-in-Ok-clause-only g c =
-    adds_both (IsMergeOf c.args.i) c.args.books.now.log c.merge_taken.new.self.log c.act-in-Ok.new.books.log c.merge_taken.ensures.only c.act-in-Ok.ensures.only
+    adds_both (IsMergeOf c.args.i) c.args.engine.now.log c.merge_taken.new.self.log c.act-in-Ok.new.engine.log c.merge_taken.ensures.only c.act-in-Ok.ensures.only
 
 pub returns-in-Ok-clause-leaves : goal.returns-in-Ok-clause-leaves
 returns-in-Ok-clause-leaves g c = leaves_both c.merge_taken.ensures.leaves c.act-in-Ok.ensures.leaves

@@ -21,43 +21,43 @@ work-worked-requires-clause-fresh g c = let r = c.requires in fresh_first r.stan
 pub work-worked-requires-clause-bare : goal.work-worked-requires-clause-bare
 work-worked-requires-clause-bare g c = let r = c.requires in bare_first r.stands r.leasable r.latest r.joins c.lease-task.ensures.lent
 
-pub home-requires-clause-out : goal.home-requires-clause-out
-home-requires-clause-out g c = let r = c.requires in out_last r.stands r.leasable r.latest r.joins c.lease-task.ensures.lent c.work-worked.ensures.worked
+pub return_task-requires-clause-out : goal.return_task-requires-clause-out
+return_task-requires-clause-out g c = let r = c.requires in out_last r.stands r.leasable r.latest r.joins c.lease-task.ensures.lent c.work-worked.ensures.worked
 
-pub home-requires-clause-left : goal.home-requires-clause-left
-home-requires-clause-left g c =
+pub return_task-requires-clause-left : goal.return_task-requires-clause-left
+return_task-requires-clause-left g c =
     let r = c.requires in
     let worked = c.work-worked.ensures.worked in
-    left_out c.work-worked.new.books.log c.args.i worked.stands.legal (out_last r.stands r.leasable r.latest r.joins c.lease-task.ensures.lent worked)
+    left_out c.work-worked.new.engine.log c.args.i worked.stands.legal (out_last r.stands r.leasable r.latest r.joins c.lease-task.ensures.lent worked)
 
-pub home-requires-clause-kept : goal.home-requires-clause-kept
-home-requires-clause-kept g c = let r = c.requires in alone_last r.stands r.leasable r.latest r.joins c.lease-task.ensures.lent c.work-worked.ensures.worked
+pub return_task-requires-clause-kept : goal.return_task-requires-clause-kept
+return_task-requires-clause-kept g c = let r = c.requires in alone_last r.stands r.leasable r.latest r.joins c.lease-task.ensures.lent c.work-worked.ensures.worked
 
-pub home-requires-clause-back : goal.home-requires-clause-back
-home-requires-clause-back g c =
+pub return_task-requires-clause-back : goal.return_task-requires-clause-back
+return_task-requires-clause-back g c =
     let r = c.requires in
     let work = c.work-worked.ensures in
     back_last r.stands r.leasable r.latest r.joins c.lease-task.ensures.lent work.worked c.work-worked.result work.well work.owing
 
-pub home-requires-clause-returned : goal.home-requires-clause-returned
-home-requires-clause-returned g c fed = let r = c.requires in returned_last r.stands r.leasable r.latest r.joins c.lease-task.ensures.lent c.work-worked.ensures.worked
+pub return_task-requires-clause-returned : goal.return_task-requires-clause-returned
+return_task-requires-clause-returned g c fed = let r = c.requires in returned_last r.stands r.leasable r.latest r.joins c.lease-task.ensures.lent c.work-worked.ensures.worked
 
 pub returns-clause-merged : goal.returns-clause-merged
 returns-clause-merged g c =
     let r = c.requires in
-    let home = c.home.ensures in
-    merged r.stands r.leasable r.latest r.joins c.lease-task.ensures.lent c.work-worked.ensures.worked home.steps home.back home.rooms home.run r.served r.lent r.away
+    let unleased = c.return_task.ensures in
+    merged r.stands r.leasable r.latest r.joins c.lease-task.ensures.lent c.work-worked.ensures.worked unleased.steps unleased.back unleased.capacities unleased.run r.served r.lent r.away
 
 pub returns-clause-well : goal.returns-clause-well
 returns-clause-well g c =
     let r = c.requires in
-    let home = c.home.ensures in
-    well_still r.stands r.leasable r.latest r.joins c.lease-task.ensures.lent c.work-worked.ensures.worked home.steps home.back home.rooms home.run c.work-worked.result
+    let unleased = c.return_task.ensures in
+    well_still r.stands r.leasable r.latest r.joins c.lease-task.ensures.lent c.work-worked.ensures.worked unleased.steps unleased.back unleased.capacities unleased.run c.work-worked.result
     c.work-worked.ensures.well
 
 pub returns-clause-answered : goal.returns-clause-answered
 returns-clause-answered g c =
     let r = c.requires in
-    let home = c.home.ensures in
-    answered_still r.stands r.leasable r.latest r.joins c.lease-task.ensures.lent c.work-worked.ensures.worked home.steps home.back home.rooms home.run c.work-worked.result
+    let unleased = c.return_task.ensures in
+    answered_still r.stands r.leasable r.latest r.joins c.lease-task.ensures.lent c.work-worked.ensures.worked unleased.steps unleased.back unleased.capacities unleased.run c.work-worked.result
     c.work-worked.ensures.well

@@ -3,7 +3,7 @@ use Rattle.std.proofs.lemmas.List.{append_assoc, length-append, reverse-append}
 use Rattle.vx_value.specs.declared.event.Event.{Event}
 use Rattle.vx_ledger.specs.Copies.{Copy}
 use Rattle.vx_transform.specs.declared.output.Output.{Output}
-use Rattle.vx_moves.specs.Bearing.{paired}
+use Rattle.vx_moves.specs.Creating.{paired}
 use Rattle.vx_moves.proofs.pair.pair.Goals as goal
 
 -- the last event goes with the last copies

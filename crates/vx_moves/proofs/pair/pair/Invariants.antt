@@ -1,5 +1,5 @@
 use Rattle.std.proofs.Common.{◌≡◌, ◌≤◌, ◌+◌, ◌++◌, length, reverse, vec_capacity}
-use Rattle.vx_moves.specs.Bearing.{paired}
+use Rattle.vx_moves.specs.Creating.{paired}
 use Rattle.vx_moves.proofs.pair.pair.Given as goal
 
 abbrev pub invariant-loop-event : goal.invariant-loop-event

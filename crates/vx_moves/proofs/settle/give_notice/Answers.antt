@@ -1,9 +1,9 @@
-use Rattle.vx_moves.proofs.Noticing.{seated}
+use Rattle.vx_moves.proofs.Noticing.{tasked}
 use Rattle.vx_moves.proofs.settle.give_notice.Goals as goal
 
 pub noticed-requires : goal.noticed-requires
-noticed-requires g c = seated g.P.Port.told c.args.log.now c.args.notice.instance c.args.notice.batch c.args.seats.now c.requires.legal.1
-    c.requires.knows c.requires.bearer
+noticed-requires g c = tasked g.P.Port.observed c.args.log.now c.args.notice.instance c.args.notice.batch c.args.states.now c.requires.legal.1
+    c.requires.knows c.requires.creator
 
 pub returns-clause-knows : goal.returns-clause-knows
-returns-clause-knows g c = rw c.note.ensures (c.noticed.ensures.knows c.args.log.now c.requires.bearer c.requires.knows c.requires.legal)
+returns-clause-knows g c = rw c.note.ensures (c.noticed.ensures.knows c.args.log.now c.requires.creator c.requires.knows c.requires.legal)

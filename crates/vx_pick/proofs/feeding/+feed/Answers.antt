@@ -1,6 +1,6 @@
 use Rattle.std.proofs.Common.{◌≤◌, ◌∙◌, map, ap, fold, arith}
 use Rattle.std.specs.Hash as fed
-use Rattle.vx_value.specs.Texts.{Word}
+use Rattle.vx_value.specs.Texts.{ByteString}
 use Rattle.vx_value.specs.Datum.{data_of, named_of, depth, data_depth, named_depth}
 use Rattle.vx_value.specs.Values.{datum_of, named_datum}
 use Rattle.vx_value.proofs.Depths.{data_depth-bound, named_depth-bound}
@@ -26,4 +26,4 @@ pub feed_fields-loop-field-preserved : goal.feed_fields-loop-field-preserved
 feed_fields-loop-field-preserved g t c =
     field_fed g.H.Hasher.write c.args.state.now c.args.fields.now c.loop-field.field-index c.field-item.result c.loop-field.state c.hash.new.state c.feed_value.new.state
     c.loop-field-test.true c.field-item.is c.loop-field.invariant
-    (c.hash.ensures ∙ ap (λ (w : Word). fold g.H.Hasher.write c.loop-field.state (fed.str w)) c.as_str.ensures) c.feed_value.ensures
+    (c.hash.ensures ∙ ap (λ (w : ByteString). fold g.H.Hasher.write c.loop-field.state (fed.str w)) c.as_str.ensures) c.feed_value.ensures

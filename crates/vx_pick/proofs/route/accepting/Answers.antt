@@ -1,7 +1,7 @@
 use Rattle.std.proofs.Common.{◌≡◌, ◌<◌, ◌^◌, ◌*◌, ℕ, ◌+◌, List, sym, ◌∙◌, ap, subst, arith}
 use Rattle.std.specs.Prelude.{slice_index_or, if◌then◌else◌}
 use Rattle.std.proofs.lemmas.List.{set-get_or}
-use Rattle.vx_value.specs.Texts.{Word}
+use Rattle.vx_value.specs.Texts.{ByteString}
 use Rattle.vx_condition.specs.Conditions.{Says}
 use Rattle.vx_record.specs.Transforms.{AllMean}
 use Rattle.vx_pick.specs.Picks.{AreMeant}
@@ -18,9 +18,9 @@ loop-condition-preserved c =
     let text = c.condition-item.result in
     let holds = c.in_ok-holds.field-0 in
     let stands : text ≡ slice_index_or texts i text =
-    subst (λ (words : List Word). text ≡ slice_index_or words i text) so.0 c.condition-item.is in
+    subst (λ (words : List ByteString). text ≡ slice_index_or words i text) so.0 c.condition-item.is in
     let says : Says text c.args.event.now.fields holds =
-    subst (λ (word : Word). Says word c.args.event.now.fields holds) (sym c.condition-item.is) c.in_ok-holds.ensures.meaning in
+    subst (λ (word : ByteString). Says word c.args.event.now.fields holds) (sym c.condition-item.is) c.in_ok-holds.ensures.meaning in
     let below : c.if-branch.accepting < c.loop-condition.bit * 2 =
     elim c.if-branch.branch [
       | then-branch w ↦ omega (arith, w.accepting-is, so.2)
@@ -43,7 +43,7 @@ returns-clause-accepting c = λ tests mean.
     let read = c.deref_mut-condition-items in
     so_far-all read.result.now c.args.event.now c.loop-condition.condition-index c.loop-condition.accepting c.loop-condition.invariant.3
     (omega (arith, c.loop-condition-test.false, c.loop-condition.auto.condition-index-end)) tests
-    (subst (λ (words : List Word). AllMean words tests) (sym read.ensures.value) mean)
+    (subst (λ (words : List ByteString). AllMean words tests) (sym read.ensures.value) mean)
 
 pub returns-clause-meant : goal.returns-clause-meant
 returns-clause-meant c =

@@ -2,7 +2,7 @@ use Rattle.std.proofs.Common.{ap, sym, ◌∙◌, ◌++◌, Some, refl}
 use Rattle.std.proofs.lemmas.List.{map-append}
 use Rattle.vx_transform.specs.declared.output.Output.{Output}
 use Rattle.vx_places.specs.Numbers.{parcels_out}
-use Rattle.vx_places.proofs.Written.{has, outputs_written, outputs_were, outputs_are, puts, rooms_kept}
+use Rattle.vx_places.proofs.Written.{has, outputs_written, outputs_were, outputs_are, puts, capacities_kept}
 use Rattle.vx_places.proofs.rows.append_outputs.Goals as goal
 
 pub append-requires : goal.append-requires
@@ -16,5 +16,5 @@ returns-clause-added c =
     outputs_are c.args.rows.now.items c.args.i _ c.requires.within c.index_mut.ensures.value _ ∙ c.append.ensures.items
     ∙ ap (λ os. os ++ c.args.more) (sym (outputs_were c.args.rows.now.items c.args.i _ c.requires.within c.index_mut.ensures.value))
 
-pub returns-clause-rooms : goal.returns-clause-rooms
-returns-clause-rooms c = search rooms_kept
+pub returns-clause-capacities : goal.returns-clause-capacities
+returns-clause-capacities c = search capacities_kept

@@ -1,6 +1,6 @@
 use Rattle.std.proofs.Common.{ap, Some}
 use Rattle.vx_places.specs.Views.{held_items}
-use Rattle.vx_places.proofs.Written.{read, held_written, puts, held_room_kept}
+use Rattle.vx_places.proofs.Written.{read, held_written, puts, held_capacity_kept}
 use Rattle.vx_places.proofs.rows.hold.Goals as goal
 
 pub push-requires : goal.push-requires
@@ -12,5 +12,5 @@ unreachable-requires c = rw c.in-None.is at (rw (read c.args.rows.now.items c.ar
 pub returns-clause-puts : goal.returns-clause-puts
 returns-clause-puts c = puts (held_written _ _ _ c.requires.within c.index_mut.ensures.value _) _ _ (ap held_items c.in-Some.is) (ap Some c.push.ensures.items)
 
-pub returns-clause-rooms : goal.returns-clause-rooms
-returns-clause-rooms c = search held_room_kept
+pub returns-clause-capacities : goal.returns-clause-capacities
+returns-clause-capacities c = search held_capacity_kept

@@ -1,7 +1,7 @@
 use Rattle.std.proofs.Common.{ap, ◌∙◌, sym}
 use Rattle.vx_places.specs.Views.{held_items}
-use Rattle.vx_places.specs.Rooms.{line_room}
-use Rattle.vx_places.proofs.Written.{held_written, lends, gets, room_lent}
+use Rattle.vx_places.specs.Capacities.{line_capacity}
+use Rattle.vx_places.proofs.Written.{held_written, lends, gets, capacity_lent}
 use Rattle.vx_places.proofs.rows.lend.Goals as goal
 
 pub returns-clause-lends : goal.returns-clause-lends
@@ -10,5 +10,5 @@ returns-clause-lends c = lends (held_written _ _ _ c.requires.within c.index_mut
 pub returns-clause-lent : goal.returns-clause-lent
 returns-clause-lent c = gets _ c.args.rows.now.items c.args.i _ c.requires.within c.take.ensures.after
 
-pub returns-clause-rooms : goal.returns-clause-rooms
-returns-clause-rooms c = room_lent _ _ _ c.requires.within c.index_mut.ensures.value _ _ (ap line_room (sym c.take.ensures.value ∙ c.in-Some.is)) (ap line_room c.take.ensures.after)
+pub returns-clause-capacities : goal.returns-clause-capacities
+returns-clause-capacities c = capacity_lent _ _ _ c.requires.within c.index_mut.ensures.value _ _ (ap line_capacity (sym c.take.ensures.value ∙ c.in-Some.is)) (ap line_capacity c.take.ensures.after)

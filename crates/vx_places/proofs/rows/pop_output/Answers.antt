@@ -3,7 +3,7 @@ use Rattle.std.proofs.lemmas.Option.{IfSome_then}
 use Rattle.vx_record.specs.Places.Place.{Outputs}
 use Rattle.vx_places.specs.Numbers.{parcels_out}
 use Rattle.vx_places.specs.Views.{KeepsOn}
-use Rattle.vx_places.proofs.Written.{gets, outputs_written, outputs_related, output_taken, takes, read_at, if_none_of, rooms_kept}
+use Rattle.vx_places.proofs.Written.{gets, outputs_written, outputs_related, output_taken, takes, read_at, if_none_of, capacities_kept}
 use Rattle.vx_places.proofs.rows.pop_output.Goals as goal
 
 pub returns-clause-takes : goal.returns-clause-takes
@@ -23,5 +23,5 @@ returns-clause-empty c =
     rw (read_at c.args.rows.now.items c.args.i _ c.requires c.index_mut.ensures.value (Outputs c.args.i) refl)
     (if_none_of c.pop.result (λ none. ap (λ os. Some (parcels_out os)) (c.pop.ensures.none.0 none)))
 
-pub returns-clause-rooms : goal.returns-clause-rooms
-returns-clause-rooms c = search rooms_kept
+pub returns-clause-capacities : goal.returns-clause-capacities
+returns-clause-capacities c = search capacities_kept

@@ -1,5 +1,5 @@
 use Rattle.std.proofs.Common.{arith, refl, ap, Some, length}
-use Rattle.vx_places.proofs.Written.{stage_of, stage_written, takes, keeps, stage_room_kept}
+use Rattle.vx_places.proofs.Written.{stage_of, stage_written, takes, keeps, stage_capacity_kept}
 use Rattle.vx_places.proofs.rows.pop_stage.Goals as goal
 
 pub index_mut-requires-2 : goal.index_mut-requires-2
@@ -17,5 +17,5 @@ returns-clause-takes c =
     let change = stage_written _ _ _ c.requires.within c.index_mut.ensures.value c.args.s _ _ l c.index_mut-2.ensures.value in
     takes change _ _ (ap Some c.in-Some.ensures.some) refl (keeps change (λ j. refl))
 
-pub returns-clause-rooms : goal.returns-clause-rooms
-returns-clause-rooms c = search stage_room_kept
+pub returns-clause-capacities : goal.returns-clause-capacities
+returns-clause-capacities c = search stage_capacity_kept

@@ -1,7 +1,7 @@
 use Rattle.std.proofs.Common.{◌≡◌, sym, ap, refl, length, arith, Some}
 use Rattle.std.proofs.lemmas.Result.{on_ok_weaker}
 use Rattle.vx_places.specs.Numbers.{parcels_out}
-use Rattle.vx_places.proofs.Written.{gets, outputs_written, outputs_related, unchanged, rooms_kept}
+use Rattle.vx_places.proofs.Written.{gets, outputs_written, outputs_related, unchanged, capacities_kept}
 use Rattle.vx_places.proofs.rows.reserve_outputs.Goals as goal
 
 pub returns-clause-same : goal.returns-clause-same
@@ -12,5 +12,5 @@ pub returns-clause-room : goal.returns-clause-room
 returns-clause-room c = on_ok_weaker c.reserve.result
     (λ room. gets _ c.args.rows.now.items c.args.i _ c.requires (let n = ap length c.reserve.ensures.items in omega (arith, room, n))) c.reserve.ensures.room
 
-pub returns-clause-rooms : goal.returns-clause-rooms
-returns-clause-rooms c = search rooms_kept
+pub returns-clause-capacities : goal.returns-clause-capacities
+returns-clause-capacities c = search capacities_kept

@@ -1,7 +1,7 @@
 use Rattle.std.proofs.Common.{refl, ap}
 use Rattle.std.proofs.lemmas.Option.{IfSome_then}
 use Rattle.vx_places.specs.Views.{held_items}
-use Rattle.vx_places.proofs.Written.{held_written, loses, keeps, gets, held_room_kept}
+use Rattle.vx_places.proofs.Written.{held_written, loses, keeps, gets, held_capacity_kept}
 use Rattle.vx_places.proofs.rows.spend_held.Goals as goal
 
 pub returns-clause-loses : goal.returns-clause-loses
@@ -11,5 +11,5 @@ returns-clause-loses c = IfSome_then c.take_copy.result c.take_copy.ensures.lose
 pub returns-clause-kept : goal.returns-clause-kept
 returns-clause-kept c = gets _ c.args.rows.now.items c.args.i _ c.requires.within refl
 
-pub returns-clause-rooms : goal.returns-clause-rooms
-returns-clause-rooms c = search held_room_kept
+pub returns-clause-capacities : goal.returns-clause-capacities
+returns-clause-capacities c = search held_capacity_kept

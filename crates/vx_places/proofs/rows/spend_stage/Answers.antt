@@ -1,7 +1,7 @@
 use Rattle.std.proofs.Common.{arith, ap, length, ◌<◌, refl, sym, ◌∙◌}
 use Rattle.std.proofs.lemmas.Option.{IfSome_then, slice_get_past}
 use Rattle.vx_record.specs.Places.Place.{Contents}
-use Rattle.vx_places.proofs.Written.{if_none_then, one_some, read, read_at, stage_written, stage_still, loses, keeps, stage_room_kept}
+use Rattle.vx_places.proofs.Written.{if_none_then, one_some, read, read_at, stage_written, stage_still, loses, keeps, stage_capacity_kept}
 use Rattle.vx_places.proofs.rows.spend_stage.Goals as goal
 
 -- both rows that were read are one, so the stage is in the one that is written
@@ -33,5 +33,5 @@ returns-else-s-len-clause-empty c =
     let past = slice_get_past c.index.result.now.stages.items c.args.s (omega (arith, ok, c.len.ensures, c.if-s-len.false)) in
     rw (read_at c.args.rows.now.items c.args.i _ c.requires c.index.ensures (Contents c.args.i c.args.s) refl, past) tt
 
-pub returns-then-s-len-clause-rooms : goal.returns-then-s-len-clause-rooms
-returns-then-s-len-clause-rooms c = search stage_room_kept
+pub returns-then-s-len-clause-capacities : goal.returns-then-s-len-clause-capacities
+returns-then-s-len-clause-capacities c = search stage_capacity_kept

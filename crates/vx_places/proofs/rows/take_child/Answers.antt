@@ -1,7 +1,7 @@
 use Rattle.std.proofs.Common.{◌≡◌, ℕ, false, refl, arith, ap, ◌∙◌, Some}
 use Rattle.std.specs.Prelude.{◌==◌}
 use Rattle.vx_places.specs.Numbers.{for_target}
-use Rattle.vx_places.proofs.Written.{said_still, waiting_written, takes, keeps, has, rooms_kept}
+use Rattle.vx_places.proofs.Written.{said_still, waiting_written, takes, keeps, has, capacities_kept}
 use Rattle.vx_places.proofs.Looking.{child_there, oldest_is, others_stay}
 use Rattle.vx_places.proofs.rows.take_child.Goals as goal
 
@@ -24,5 +24,5 @@ returns-clause-takes c =
 pub returns-clause-free : goal.returns-clause-free
 returns-clause-free c t s room = said_still _ c.args.rows.now.items c.args.i c.index_mut.result.now _ c.index_mut.ensures.value t room refl
 
-pub returns-clause-rooms : goal.returns-clause-rooms
-returns-clause-rooms c = search rooms_kept
+pub returns-clause-capacities : goal.returns-clause-capacities
+returns-clause-capacities c = search capacities_kept

@@ -1,5 +1,5 @@
 use Rattle.std.proofs.Common.{refl, ap, ◌∙◌, []}
-use Rattle.vx_places.proofs.Written.{has, children_wait, rooms_kept}
+use Rattle.vx_places.proofs.Written.{has, children_wait, capacities_kept}
 use Rattle.vx_places.proofs.rows.take_child_room.Goals as goal
 
 pub returns-clause-waits : goal.returns-clause-waits
@@ -11,5 +11,5 @@ pub returns-clause-empty : goal.returns-clause-empty
 returns-clause-empty c = c.into_vec.ensures.items ∙ (ap (λ (v : _). v.items) c.replace-none.ensures.value
     ∙ has _ c.args.rows.now.items c.args.i _ c.requires.within c.index_mut.ensures.value c.requires.none)
 
-pub returns-clause-rooms : goal.returns-clause-rooms
-returns-clause-rooms c = search rooms_kept
+pub returns-clause-capacities : goal.returns-clause-capacities
+returns-clause-capacities c = search capacities_kept

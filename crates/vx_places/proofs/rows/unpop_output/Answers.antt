@@ -1,7 +1,7 @@
 use Rattle.std.proofs.Common.{ap, Some, refl, inr}
 use Rattle.vx_places.specs.Numbers.{parcels_out}
 use Rattle.vx_places.specs.Views.{KeepsOn}
-use Rattle.vx_places.proofs.Written.{has, outputs_written, outputs_related, output_back, back, takes, rooms_kept}
+use Rattle.vx_places.proofs.Written.{has, outputs_written, outputs_related, output_back, back, takes, capacities_kept}
 use Rattle.vx_places.proofs.rows.unpop_output.Goals as goal
 
 pub put_back-requires : goal.put_back-requires
@@ -14,5 +14,5 @@ returns-clause-takes c = takes (back (outputs_written _ _ _ c.requires.within c.
 pub returns-clause-output : goal.returns-clause-output
 returns-clause-output c = output_back _ _ _ c.requires.within c.index_mut.ensures.value c.args.output _ c.put_back.ensures.items
 
-pub returns-clause-rooms : goal.returns-clause-rooms
-returns-clause-rooms c = search rooms_kept
+pub returns-clause-capacities : goal.returns-clause-capacities
+returns-clause-capacities c = search capacities_kept

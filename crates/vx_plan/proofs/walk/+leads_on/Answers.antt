@@ -1,6 +1,6 @@
 use Rattle.std.proofs.Common.{◌≡◌, ◌∷◌, ◌∙◌, List, Some, None, true, false, length, ap, sym, subst, arith}
 use Rattle.std.specs.List.{list_any}
-use Rattle.vx_value.specs.Texts.{Word}
+use Rattle.vx_value.specs.Texts.{ByteString}
 use Rattle.vx_plan.specs.Components.{component_named, acknowledges}
 use Rattle.vx_plan.specs.Targets.{acknowledged}
 use Rattle.vx_plan.specs.declared.plan.Plan.{Plan}
@@ -16,7 +16,7 @@ leads_on-requires t c =
     let rest = names_in c.in-One.rest.now in
     let name = c.in-One.name.now in
     let more : names_in c.args.todo.now ≡ name ∷ rest = ap names_in c.in-One.is ∙ names_more c.in-One.rest c.in-One.name in
-    let long : length (names_in c.args.todo.now) ≡ length (name ∷ rest) = ap (λ (names : List Word). length names) more in
+    let long : length (names_in c.args.todo.now) ≡ length (name ∷ rest) = ap (λ (names : List ByteString). length names) more in
     let at : component_named plan name ≡ None = cc c.in_default-component.ensures in
     let walked : IsWalked plan seen (name ∷ rest) = subst (IsWalked plan seen) more c.requires in
     (omega (arith, c.decreases, long), walked_left plan seen rest name walked (passed_unknown plan seen name at))
@@ -50,7 +50,7 @@ leads_on-requires-in-None t c =
     let rest = names_in c.in-One.rest.now in
     let name = c.in-One.name.now in
     let more : names_in c.args.todo.now ≡ name ∷ rest = ap names_in c.in-One.is ∙ names_more c.in-One.rest c.in-One.name in
-    let long : length (names_in c.args.todo.now) ≡ length (name ∷ rest) = ap (λ (names : List Word). length names) more in
+    let long : length (names_in c.args.todo.now) ≡ length (name ∷ rest) = ap (λ (names : List ByteString). length names) more in
     let at : component_named plan name ≡ Some c.in-Some.owner.now = cc c.in-Some.ensures in
     let silent : acknowledges c.in-Some.owner.now ≡ false = sym c.acknowledges.ensures ∙ c.if-acknowledges.false in
     let none : next_reader plan.components c.in-Some.owner.now seen ≡ None = ap (λ cs. next_reader cs c.in-Some.owner.now seen) (sym (c.as_slice.ensures ∙ ap (λ (p : Plan). p.components) c.plan.view_is)) ∙ c.in-None.ensures in
@@ -80,12 +80,12 @@ leads_on-requires-in-Some-next_reader t c =
     let found : next_reader plan.components c.in-Some.owner.now seen ≡ Some reader = ap (λ cs. next_reader cs c.in-Some.owner.now seen) (sym (c.as_slice.ensures ∙ ap (λ (p : Plan). p.components) c.plan.view_is)) ∙ c.in-Some-next_reader.ensures in
     let put_todo : names_in (One c.args.todo c.in-Some-next_reader.reader) ≡ reader ∷ todo = names_more c.args.todo c.in-Some-next_reader.reader in
     let put_seen : names_in (One c.args.seen c.in-Some-next_reader.reader) ≡ reader ∷ seen = names_more c.args.seen c.in-Some-next_reader.reader in
-    let long : length (names_in (One c.args.todo c.in-Some-next_reader.reader)) ≡ length (reader ∷ todo) = ap (λ (names : List Word). length names) put_todo in
+    let long : length (names_in (One c.args.todo c.in-Some-next_reader.reader)) ≡ length (reader ∷ todo) = ap (λ (names : List ByteString). length names) put_todo in
     let fewer = fewer_left plan.components c.in-Some.owner.now seen reader found in
     let count : unseen_count plan.components (names_in (One c.args.seen c.in-Some-next_reader.reader)) ≡ unseen_count plan.components (reader ∷ seen) = ap (unseen_count plan.components) put_seen in
     let walked : IsWalked plan (reader ∷ seen) (reader ∷ todo) = walked_put plan seen todo reader c.requires in (
       omega (arith, c.decreases, long, fewer, count),
-      subst (λ (names : List Word). IsWalked plan names (names_in (One c.args.todo c.in-Some-next_reader.reader))) (sym put_seen) (subst (IsWalked plan (reader ∷ seen)) (sym put_todo) walked),
+      subst (λ (names : List ByteString). IsWalked plan names (names_in (One c.args.todo c.in-Some-next_reader.reader))) (sym put_seen) (subst (IsWalked plan (reader ∷ seen)) (sym put_todo) walked),
     )
 
 pub returns-in-Some-next_reader : goal.returns-in-Some-next_reader

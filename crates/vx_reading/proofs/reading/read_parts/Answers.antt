@@ -4,7 +4,7 @@ use Rattle.vx_graph.specs.declared.node.Node.{Node}
 use Rattle.vx_graph.specs.Faults.{IsAccepted, IsFault}
 use Rattle.vx_graph.specs.Order.{in_order}
 use Rattle.vx_reading.specs.Conditions.{is_one, refusals}
-use Rattle.vx_reading.specs.Findings.{findings}
+use Rattle.vx_reading.specs.Diagnostics.{diagnostics}
 use Rattle.vx_reading.specs.Views.{parts_view}
 use Rattle.vx_reading.proofs.Judged.{short_judged, memory_judged, components_here, plan_made, fault_here, plan_here, graph_here, conditions_here}
 use Rattle.vx_reading.proofs.reading.read_parts.Goals as goal
@@ -38,9 +38,9 @@ returns-in-Some-clause-judged c =
     let root = view c.args.root.now in
     let components = c.in_ok-components.components in
     let of = components_here root (parts_view c.args.all.now) c.in_ok-global.global components c.requires c.in_ok-global.ensures c.in_ok-components.ensures in
-    let all : c.push_refusals.new.findings ≡ findings root ++ refusals (is_one c.in_ok-refused.field-0.refused) components =
+    let all : c.push_refusals.new.diagnostics ≡ diagnostics root ++ refusals (is_one c.in_ok-refused.field-0.refused) components =
     cc (c.in_ok-push_refusals.ensures, c.in_ok-found.ensures) in
-    fault_here root components c.in_ok-refused.field-0.refused c.in_ok-refused.field-0.conditions c.push_refusals.new.findings of c.in_ok-refused.ensures all
+    fault_here root components c.in_ok-refused.field-0.refused c.in_ok-refused.field-0.conditions c.push_refusals.new.diagnostics of c.in_ok-refused.ensures all
     c.in-Some.fault c.in-Some.ensures.some
 
 pub returns-in-Ok-clause-judged : goal.returns-in-Ok-clause-judged
@@ -48,10 +48,10 @@ returns-in-Ok-clause-judged c =
     let root = view c.args.root.now in
     let components = c.in_ok-components.components in
     let of = components_here root (parts_view c.args.all.now) c.in_ok-global.global components c.requires c.in_ok-global.ensures c.in_ok-components.ensures in
-    let all : c.push_refusals.new.findings ≡ findings root ++ refusals (is_one c.in_ok-refused.field-0.refused) components =
+    let all : c.push_refusals.new.diagnostics ≡ diagnostics root ++ refusals (is_one c.in_ok-refused.field-0.refused) components =
     cc (c.in_ok-push_refusals.ensures, c.in_ok-found.ensures) in
     let same = plan_made root c.in_ok-global.global components c.in_ok-plan.plan c.in_ok-global.ensures of c.in_ok-plan.ensures in
-    plan_here root components c.in_ok-refused.field-0.refused c.in_ok-refused.field-0.conditions c.push_refusals.new.findings of c.in_ok-refused.ensures all
+    plan_here root components c.in_ok-refused.field-0.refused c.in_ok-refused.field-0.conditions c.push_refusals.new.diagnostics of c.in_ok-refused.ensures all
     c.in_ok-plan.plan same c.in_default.ensures.none (subst (λ (nodes : List Node). IsAccepted (in_order nodes)) c.in_ok-nodes.ensures c.in-Ok.ensures.accepted)
 
 pub returns-in-Ok-clause-conditions : goal.returns-in-Ok-clause-conditions
@@ -59,10 +59,10 @@ returns-in-Ok-clause-conditions c =
     let root = view c.args.root.now in
     let components = c.in_ok-components.components in
     let of = components_here root (parts_view c.args.all.now) c.in_ok-global.global components c.requires c.in_ok-global.ensures c.in_ok-components.ensures in
-    let all : c.push_refusals.new.findings ≡ findings root ++ refusals (is_one c.in_ok-refused.field-0.refused) components =
+    let all : c.push_refusals.new.diagnostics ≡ diagnostics root ++ refusals (is_one c.in_ok-refused.field-0.refused) components =
     cc (c.in_ok-push_refusals.ensures, c.in_ok-found.ensures) in
     let same = plan_made root c.in_ok-global.global components c.in_ok-plan.plan c.in_ok-global.ensures of c.in_ok-plan.ensures in
-    conditions_here root components c.in_ok-refused.field-0.refused c.in_ok-refused.field-0.conditions c.push_refusals.new.findings of c.in_ok-refused.ensures all
+    conditions_here root components c.in_ok-refused.field-0.refused c.in_ok-refused.field-0.conditions c.push_refusals.new.diagnostics of c.in_ok-refused.ensures all
     c.in_ok-plan.plan same c.in_default.ensures.none
 
 pub returns : goal.returns
@@ -70,11 +70,11 @@ returns c =
     let root = view c.args.root.now in
     let components = c.in_ok-components.components in
     let of = components_here root (parts_view c.args.all.now) c.in_ok-global.global components c.requires c.in_ok-global.ensures c.in_ok-components.ensures in
-    let all : c.push_refusals.new.findings ≡ findings root ++ refusals (is_one c.in_ok-refused.field-0.refused) components =
+    let all : c.push_refusals.new.diagnostics ≡ diagnostics root ++ refusals (is_one c.in_ok-refused.field-0.refused) components =
     cc (c.in_ok-push_refusals.ensures, c.in_ok-found.ensures) in
     let same = plan_made root c.in_ok-global.global components c.in_ok-plan.plan c.in_ok-global.ensures of c.in_ok-plan.ensures in
     record {
-      judged = graph_here root components c.in_ok-refused.field-0.refused c.in_ok-refused.field-0.conditions c.push_refusals.new.findings of c.in_ok-refused.ensures all
+      judged = graph_here root components c.in_ok-refused.field-0.refused c.in_ok-refused.field-0.conditions c.push_refusals.new.diagnostics of c.in_ok-refused.ensures all
           c.in_ok-plan.plan same c.in_default.ensures.none c.in-Err.fault (subst (λ (nodes : List Node). IsFault (in_order nodes) c.in-Err.fault) c.in_ok-nodes.ensures c.in-Err.ensures.refused) (search rules);
       conditions = tt;
     }

@@ -6,5 +6,5 @@ use Rattle.vx_reading.proofs.refusals.push_components.Given as goal
 -- what is left to add makes the list whole
 abbrev pub invariant-loop-component : goal.invariant-loop-component
 invariant-loop-component l =
-    l.findings ++ refusals (is_kept l.refused) (drop l.component-index l.component-items)
-    ≡ l.initial.findings ++ refusals (is_kept l.refused) l.component-items
+    l.diagnostics ++ refusals (is_kept l.refused) (drop l.component-index l.component-items)
+    ≡ l.initial.diagnostics ++ refusals (is_kept l.refused) l.component-items

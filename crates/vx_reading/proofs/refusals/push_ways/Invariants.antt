@@ -7,5 +7,5 @@ use Rattle.vx_reading.proofs.refusals.push_ways.Given as goal
 -- what is left to add makes the list whole
 abbrev pub invariant-loop-way : goal.invariant-loop-way
 invariant-loop-way l =
-    l.findings ++ flat_map (refusal (is_kept l.refused) l.component) (map placed_way (drop l.way-index l.way-items))
-    ≡ l.initial.findings ++ flat_map (refusal (is_kept l.refused) l.component) (map placed_way l.way-items)
+    l.diagnostics ++ flat_map (refusal (is_kept l.refused) l.component) (map placed_way (drop l.way-index l.way-items))
+    ≡ l.initial.diagnostics ++ flat_map (refusal (is_kept l.refused) l.component) (map placed_way l.way-items)

@@ -4,7 +4,7 @@ use Rattle.vx_ready.proofs.jobs.is_close_due.Goals as goal
 
 pub returns-then-has_device : goal.returns-then-has_device
 returns-then-has_device g c =
-    c.is_done.ensures ∙ close_there g.P.Port.told c.args.books.now c.requires.stands c.args.i c.requires.within c.requires.settled c.requires.open (sym c.has_device.ensures ∙ c.if-has_device.true)
+    c.is_done.ensures ∙ close_there g.P.Port.observed c.args.engine.now c.requires.stands c.args.i c.requires.within c.requires.settled c.requires.open (sym c.has_device.ensures ∙ c.if-has_device.true)
 
 pub returns-else-has_device : goal.returns-else-has_device
-returns-else-has_device g c = c.if-has_device.false ∙ close_never c.args.books.now.log c.args.i (sym c.has_device.ensures ∙ c.if-has_device.false)
+returns-else-has_device g c = c.if-has_device.false ∙ close_never c.args.engine.now.log c.args.i (sym c.has_device.ensures ∙ c.if-has_device.false)

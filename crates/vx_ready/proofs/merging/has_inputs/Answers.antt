@@ -8,7 +8,7 @@ use Rattle.vx_ready.proofs.merging.has_inputs.Goals as goal
 
 pub returns-then-not-is_unbuffered-clause-some : goal.returns-then-not-is_unbuffered-clause-some
 returns-then-not-is_unbuffered-clause-some g c is =
-    let h = c.args.books.now.log in let i = c.args.i in
+    let h = c.args.engine.now.log in let i = c.args.i in
     inl (or_left (not (is_empty (buffered h i))) (is_flush_due h i) (ap not (sym c.is_unbuffered.ensures ∙ c.if-not-is_unbuffered.true)))
 
 pub returns-then-is_check_due-clause-some : goal.returns-then-is_check_due-clause-some
@@ -16,12 +16,12 @@ returns-then-is_check_due-clause-some g c is = inr (c.is_check_due.ensures.due c
 
 pub returns-clause-some : goal.returns-clause-some
 returns-clause-some g c is =
-    let h = c.args.books.now.log in let i = c.args.i in
+    let h = c.args.engine.now.log in let i = c.args.i in
     inl (or_right (not (is_empty (buffered h i))) (is_flush_due h i) (sym c.must_flush.ensures ∙ is))
 
 pub returns-clause-none : goal.returns-clause-none
 returns-clause-none g c off =
-    let h = c.args.books.now.log in let i = c.args.i in
+    let h = c.args.engine.now.log in let i = c.args.i in
     or_from (not (is_empty (buffered h i))) (is_flush_due h i) (ap not (sym c.is_unbuffered.ensures ∙ c.if-not-is_unbuffered.false)) (sym c.must_flush.ensures ∙ off)
 
 pub returns-clause-early : goal.returns-clause-early

@@ -5,6 +5,6 @@ use Rattle.vx_ready.proofs.sources.is_confirm_due.Goals as goal
 
 pub returns : goal.returns
 returns g c =
-    let seat = c.get-seat.result.now in
-    c.both.ensures ∙ ap (λ b. seat.device && b) c.is_due.ensures
-    ∙ due_is g.P.Port.told c.args.books.now c.requires.stands c.args.i seat c.get-seat.ensures c.requires.settled
+    let state = c.get-state.result.now in
+    c.both.ensures ∙ ap (λ b. state.device && b) c.is_due.ensures
+    ∙ due_is g.P.Port.observed c.args.engine.now c.requires.stands c.args.i state c.get-state.ensures c.requires.settled

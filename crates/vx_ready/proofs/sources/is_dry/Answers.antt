@@ -5,6 +5,6 @@ use Rattle.vx_ready.proofs.sources.is_dry.Goals as goal
 
 pub returns : goal.returns
 returns g c =
-    let seat = c.get-seat.result.now in
-    c.takes_none.ensures ∙ ap (λ b. source_class seat.class && (seat.facts.over || b)) c.is_some.ensures
-    ∙ dry_is g.P.Port.told c.args.books.now c.requires.stands c.args.i seat c.get-seat.ensures
+    let state = c.get-state.result.now in
+    c.takes_none.ensures ∙ ap (λ b. source_class state.class && (state.facts.over || b)) c.is_some.ensures
+    ∙ dry_is g.P.Port.observed c.args.engine.now c.requires.stands c.args.i state c.get-state.ensures

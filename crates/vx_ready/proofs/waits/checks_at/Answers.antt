@@ -37,4 +37,4 @@ returns-then-not-is_sent-clause-only g c settled open_at joins fit now tick = le
 pub returns-clause-only : goal.returns-clause-only
 returns-clause-only g c settled open_at joins fit now tick =
     let r = c.requires in
-    c.check_due.ensures.only fit (none_taken_there g.P.Port.told c.args.books.now r.stands c.args.i r.within settled joins) now tick.due
+    c.check_due.ensures.only fit (none_taken_there g.P.Port.observed c.args.engine.now r.stands c.args.i r.within settled joins) now tick.due

@@ -1,6 +1,6 @@
 use Rattle.std.proofs.Common.{◌≡◌, Option, Some, None, List, [], ◌∷◌, ◌++◌, codes, refl, ap}
 use Rattle.std.specs.Str.Lossy.{utf8_lossy}
-use Rattle.vx_value.specs.Texts.{Word}
+use Rattle.vx_value.specs.Texts.{ByteString}
 use Rattle.vx_value.specs.Datum.{Words, NamedDatum}
 use Rattle.vx_value.specs.declared.event.Event.{Event}
 use Rattle.vx_plan.specs.Options.{type_name, file_read}
@@ -42,7 +42,7 @@ returns-clause-gives_none c d settings line = (
 pub returns-clause-text_gives : goal.returns-clause-text_gives
 returns-clause-text_gives c settings line = go (file_read settings)
   where
-    go : (path : Option Word) → event_with (line_fields decoding.Bytes (type_name settings) path line.bytes)
+    go : (path : Option ByteString) → event_with (line_fields decoding.Bytes (type_name settings) path line.bytes)
         ≡ record { fields = file_fields path ++ record { name = codes "message"; value = Words (utf8_lossy line.bytes) } ∷ record { name = codes "source_type"; value = Words (type_name settings) } ∷ [] } ∷ []
     go None = refl
     go (Some path) = refl

@@ -1,4 +1,4 @@
-use Rattle.vx_record.proofs.TasksOut.{out_to_worker, leased_from_home, out_made_by, others_spare, workers_spare, none_spares, tasks_spare, taskless_spares, spared_stays, tasks_out}
+use Rattle.vx_record.proofs.TasksOut.{out_to_worker, leased_when_unleased, out_made_by, others_spare, workers_spare, none_spares, tasks_spare, taskless_spares, spared_stays, tasks_out}
 use Rattle.vx_record.proofs.OwnLeases.{lease_stays}
 use Rattle.vx_record.proofs.Resting.{reading_spared}
 use Rattle.vx_record.proofs.OwnContents.{contents_grow}
@@ -8,8 +8,8 @@ use Rattle.vx_record.proofs.task_laws.tasks_out.Goals as goal
 pub returns-clause-worker : goal.returns-clause-worker
 returns-clause-worker c = out_to_worker
 
-pub returns-clause-home : goal.returns-clause-home
-returns-clause-home c = leased_from_home
+pub returns-clause-unleased : goal.returns-clause-unleased
+returns-clause-unleased c = leased_when_unleased
 
 pub returns-clause-made : goal.returns-clause-made
 returns-clause-made c = out_made_by

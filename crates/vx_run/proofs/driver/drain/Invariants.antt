@@ -5,7 +5,7 @@ use Rattle.vx_run.proofs.driver.drain.Given as goal
 
 abbrev pub invariant-loop : goal.invariant-loop
 invariant-loop g l = record {
-  hub : IsHub g.P.Port.told l.hub;
-  on : OnlyAdds (IsTimely (g.C.Clock.gave l.clock)) l.fn.hub.books.log l.hub.books.log;
-  moment : g.C.Clock.gave l.clock l.hub.books.run.latest;
+  hub : IsHub g.P.Port.observed l.hub;
+  on : OnlyAdds (IsTimely (g.C.Clock.gave l.clock)) l.fn.hub.engine.log l.hub.engine.log;
+  moment : g.C.Clock.gave l.clock l.hub.engine.run.latest;
 }

@@ -4,6 +4,6 @@ use Rattle.vx_run.proofs.driver.drive.Goals as goal
 pub loop-preserved : goal.loop-preserved
 loop-preserved g c = record {
   hub = c.turn.ensures.hub;
-  on = timely_both (g.C.Clock.gave c.args.clock.now) c.args.hub.now.books.log c.loop.hub.books.log c.turn.new.hub.books.log c.loop.invariant.on c.turn.ensures.on;
+  on = timely_both (g.C.Clock.gave c.args.clock.now) c.args.hub.now.engine.log c.loop.hub.engine.log c.turn.new.hub.engine.log c.loop.invariant.on c.turn.ensures.on;
   moment = c.turn.ensures.moment;
 }

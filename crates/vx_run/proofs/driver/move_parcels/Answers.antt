@@ -6,6 +6,6 @@ use Rattle.vx_run.proofs.driver.move_parcels.Goals as goal
 pub loop-moved-preserved : goal.loop-moved-preserved
 loop-moved-preserved g c = record {
   hub = c.push.ensures.hub;
-  on = adds_both IsTimeless c.args.hub.now.books.log c.loop-moved.hub.books.log c.push.new.hub.books.log c.loop-moved.invariant.on c.push.ensures.on;
+  on = adds_both IsTimeless c.args.hub.now.engine.log c.loop-moved.hub.engine.log c.push.new.hub.engine.log c.loop-moved.invariant.on c.push.ensures.on;
   latest = c.push.ensures.latest ∙ c.loop-moved.invariant.latest;
 }

@@ -6,7 +6,7 @@ use Rattle.vx_run.proofs.driver.move_parcels.Given as goal
 
 abbrev pub invariant-loop-moved : goal.invariant-loop-moved
 invariant-loop-moved g l = record {
-  hub : IsHub g.P.Port.told l.hub;
-  on : OnlyAdds IsTimeless l.fn.hub.books.log l.hub.books.log;
-  latest : l.hub.books.run.latest ≡ l.fn.hub.books.run.latest;
+  hub : IsHub g.P.Port.observed l.hub;
+  on : OnlyAdds IsTimeless l.fn.hub.engine.log l.hub.engine.log;
+  latest : l.hub.engine.run.latest ≡ l.fn.hub.engine.run.latest;
 }

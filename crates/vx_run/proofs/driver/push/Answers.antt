@@ -5,9 +5,9 @@ use Rattle.vx_run.proofs.driver.push.Goals as goal
 
 pub returns-in-Err-clause-on : goal.returns-in-Err-clause-on
 returns-in-Err-clause-on g c =
-    let old = c.args.hub.now.books.log in
-    let mid = c.push_pending.new.self.books.log in
-    adds_both IsTimeless old mid c.give_up.new.hub.books.log (moved_on c.args.instance old mid c.in-Err.ensures.only) c.give_up.ensures.on
+    let old = c.args.hub.now.engine.log in
+    let mid = c.push_pending.new.self.engine.log in
+    adds_both IsTimeless old mid c.give_up.new.hub.engine.log (moved_on c.args.instance old mid c.in-Err.ensures.only) c.give_up.ensures.on
 
 pub returns-in_default-clause-on : goal.returns-in_default-clause-on
-returns-in_default-clause-on g c = moved_on c.args.instance c.args.hub.now.books.log c.push_pending.new.self.books.log c.in_default.ensures.only
+returns-in_default-clause-on g c = moved_on c.args.instance c.args.hub.now.engine.log c.push_pending.new.self.engine.log c.in_default.ensures.only

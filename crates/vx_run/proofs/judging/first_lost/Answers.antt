@@ -4,4 +4,4 @@ use Rattle.vx_run.proofs.Judged.{one_further}
 use Rattle.vx_run.proofs.judging.first_lost.Goals as goal
 
 pub loop-instance-preserved : goal.loop-instance-preserved
-loop-instance-preserved g c = one_further (lost_at c.args.hub.now.books.log) None c.loop-instance.instance c.loop-instance.invariant (sym c.lost.ensures ∙ c.in_default.is)
+loop-instance-preserved g c = one_further (lost_at c.args.hub.now.engine.log) None c.loop-instance.instance c.loop-instance.invariant (sym c.lost.ensures ∙ c.in_default.is)

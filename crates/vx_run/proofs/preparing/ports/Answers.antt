@@ -1,5 +1,5 @@
 use Rattle.std.proofs.Common.{refl, ap, ◌∙◌, length, ◌+◌}
-use Rattle.vx_ends.specs.Silent.{told_if}
+use Rattle.vx_ends.specs.Silent.{observed_if}
 use Rattle.vx_plan.specs.declared.plan.Plan.{Plan}
 use Rattle.vx_plan.specs.Ports.{port_of}
 use Rattle.vx_run.specs.Calling.{HasBegun, call_of, port_calls}
@@ -13,7 +13,7 @@ loop-component-preserved g c =
     let same = c.as_slice-component-items.ensures ∙ ap (λ (p : Plan). p.components) c.plan.view_is in
     record {
       count = one_more c.loop-component.ports c.push.new.self c.in_ok-port.port c.in-Ok.ensures.ok ∙ ap (λ n. n + 1) inv.count;
-      untouched = untouched_added (told_if g.W.Port.Port.told) (port_of c.args.once c.args.plan.now.global.data_dir) c.args.plan.now.components c.loop-component.ports c.push.new.self c.component-item.result c.in_ok-port.port c.in-Ok.ensures.ok
+      untouched = untouched_added (observed_if g.W.Port.Port.observed) (port_of c.args.once c.args.plan.now.global.data_dir) c.args.plan.now.components c.loop-component.ports c.push.new.self c.component-item.result c.in_ok-port.port c.in-Ok.ensures.ok
           (component_got c.args.plan.now.components c.as_slice-component-items.result.now c.loop-component.component-index (length c.loop-component.ports) c.component-item.result same inv.count
           c.loop-component-test.true c.component-item.is) inv.untouched c.in_ok-port.ensures.untouched;
       called = ports_more (g.W.World.calls c.args.world.now) (g.W.World.calls c.loop-component.world) (g.W.World.calls c.port.new.world) (port_of c.args.once c.args.plan.now.global.data_dir) c.args.plan.now.components c.loop-component.component-index c.component-item.result

@@ -14,10 +14,10 @@ pub returns-in-Ok-clause-installed : goal.returns-in-Ok-clause-installed
 returns-in-Ok-clause-installed g c =
     let parts = c.args.parts in
     force_of parts.once parts.plan c.finish.result.history c.finish.result.fault
-    (began_with parts.plan parts.once c.now.result c.in-Ok.hub.books.log c.finish.result.history c.in-Ok.ensures.first c.finish.ensures.same c.finish.ensures.on)
+    (began_with parts.plan parts.once c.now.result c.in-Ok.hub.engine.log c.finish.result.history c.in-Ok.ensures.first c.finish.ensures.same c.finish.ensures.on)
 
 pub returns-in-Ok-clause-none_missing : goal.returns-in-Ok-clause-none_missing
 returns-in-Ok-clause-none_missing g c =
     let parts = c.args.parts in
     each_of parts.plan c.finish.result.history c.finish.result.ports c.finish.result.fault
-    (c.finish.ensures.count ∙ size_stays parts.plan parts.once c.now.result c.in-Ok.hub.books.log c.finish.result.history c.in-Ok.ensures.first c.finish.ensures.same c.in-Ok.ensures.hub.stands.legal)
+    (c.finish.ensures.count ∙ size_stays parts.plan parts.once c.now.result c.in-Ok.hub.engine.log c.finish.result.history c.in-Ok.ensures.first c.finish.ensures.same c.in-Ok.ensures.hub.stands.legal)

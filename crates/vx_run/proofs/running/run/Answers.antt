@@ -1,5 +1,5 @@
 use Rattle.std.proofs.Common.{◌∙◌, Bool, Option, sym, subst}
-use Rattle.vx_ends.specs.Told.{Grows}
+use Rattle.vx_ends.specs.Observation.{Grows}
 use Rattle.vx_cli.specs.declared.fault.Fault.{Fault}
 use Rattle.vx_run.specs.Calling.{HasCalled, HasCalledFor, run_calls}
 use Rattle.vx_run.specs.Answers.{IsReady}

@@ -3,4 +3,4 @@ use Rattle.vx_runs.proofs.Spared.{given_spares}
 use Rattle.vx_runs.proofs.by_hand.give_up.Goals as goal
 
 pub returns-clause-spares : goal.returns-clause-spares
-returns-clause-spares g c = given_spares WantOfMemory c.args.hub.now.books.log c.abandon.new.self.books.log c.abandon.ensures.only
+returns-clause-spares g c = given_spares WantOfMemory c.args.hub.now.engine.log c.abandon.new.self.engine.log c.abandon.ensures.only

@@ -4,14 +4,14 @@ use Rattle.vx_runs.proofs.by_hand.land_three.Goals as goal
 
 pub land_and_push-requires-2-clause-back : goal.land_and_push-requires-2-clause-back
 land_and_push-requires-2-clause-back g c =
-    back_beside g.P.Port.told c.args.hub.now c.land_and_push.new.hub c.requires.hub c.land_and_push.ensures.hub c.args.a.instance c.args.b
+    back_beside g.P.Port.observed c.args.hub.now c.land_and_push.new.hub c.requires.hub c.land_and_push.ensures.hub c.args.a.instance c.args.b
     (λ same. c.requires.back.first_second (sym same)) c.land_and_push.ensures.spares c.requires.back.second
 
 pub land_and_push-requires-3-clause-back : goal.land_and_push-requires-3-clause-back
 land_and_push-requires-3-clause-back g c =
     let mid = c.land_and_push.new.hub in
     let back =
-    back_beside g.P.Port.told c.args.hub.now mid c.requires.hub c.land_and_push.ensures.hub c.args.a.instance c.args.c
+    back_beside g.P.Port.observed c.args.hub.now mid c.requires.hub c.land_and_push.ensures.hub c.args.a.instance c.args.c
     (λ same. c.requires.back.first_third (sym same)) c.land_and_push.ensures.spares c.requires.back.third in
-    back_beside g.P.Port.told mid c.land_and_push-2.new.hub c.land_and_push.ensures.hub c.land_and_push-2.ensures.hub c.args.b.instance c.args.c
+    back_beside g.P.Port.observed mid c.land_and_push-2.new.hub c.land_and_push.ensures.hub c.land_and_push-2.ensures.hub c.args.b.instance c.args.c
     (λ same. c.requires.back.second_third (sym same)) c.land_and_push-2.ensures.spares back

@@ -8,5 +8,5 @@ loop-instance-preserved g c =
     record {
       hub = c.push.ensures.hub;
       size = c.push.ensures.size ∙ inv.size;
-      spares = each_both c.args.hub.now.books.log c.loop-instance.hub.books.log c.push.new.hub.books.log inv.spares c.push.ensures.spares;
+      spares = each_both c.args.hub.now.engine.log c.loop-instance.hub.engine.log c.push.new.hub.engine.log inv.spares c.push.ensures.spares;
     }

@@ -6,7 +6,7 @@ use Rattle.vx_runs.proofs.by_hand.push_all.Given as goal
 
 abbrev pub invariant-loop-instance : goal.invariant-loop-instance
 invariant-loop-instance g l = record {
-  hub : IsHub g.P.Port.told l.hub;
-  size : length (started l.hub.books.log) ≡ length (started l.fn.hub.books.log);
-  spares : SparesEach l.fn.hub.books.log l.hub.books.log;
+  hub : IsHub g.P.Port.observed l.hub;
+  size : length (started l.hub.engine.log) ≡ length (started l.fn.hub.engine.log);
+  spares : SparesEach l.fn.hub.engine.log l.hub.engine.log;
 }

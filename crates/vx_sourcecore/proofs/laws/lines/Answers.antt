@@ -1,8 +1,8 @@
-use Rattle.vx_sourcecore.proofs.Framed.{framed_counted, told_new}
+use Rattle.vx_sourcecore.proofs.Framed.{framed_counted, observed_new}
 use Rattle.vx_sourcecore.proofs.laws.lines.Goals as goal
 
 pub returns-clause-counted : goal.returns-clause-counted
 returns-clause-counted c = framed_counted
 
-pub returns-clause-told : goal.returns-clause-told
-returns-clause-told c = told_new
+pub returns-clause-observed : goal.returns-clause-observed
+returns-clause-observed c = observed_new

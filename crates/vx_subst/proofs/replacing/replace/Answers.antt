@@ -4,7 +4,7 @@ use Rattle.std.proofs.lemmas.Result.{err_from_is_err_and}
 use Rattle.std.proofs.lemmas.Str.Pattern.{split_parts}
 use Rattle.vx_subst.specs.Pieces.{behind, form_of}
 use Rattle.vx_subst.specs.Replaced.{lacks}
-use Rattle.vx_subst.proofs.Steps.{text_step, lack_step, text_end, lack_end, place, tells_first}
+use Rattle.vx_subst.proofs.Steps.{text_step, lack_step, text_end, lack_end, place, reports_first}
 use Rattle.vx_subst.specs.Unclosed.{IsUnclosed}
 use Rattle.vx_subst.proofs.Unclosed.{unclosed_behind, unclosed_dropped}
 use Rattle.vx_subst.proofs.replacing.replace.Goals as goal
@@ -16,9 +16,9 @@ returns-in_err-push_form-clause-missing c =
     let environment = c.args.environment.now in
     let parts = rw c.in-Some.is at (split_parts 36 rest c.split_once.result c.split_once.ensures.cases (lit< tt)) in
     let step = lack_step environment text rest c.in-Some.before.now c.in-Some.after.now _ parts.0 parts.1 c.loop-before.invariant.within refl in
-    let told = rw (c.as_slice.ensures, c.form_of.ensures.form) at c.in_err-push_form.ensures.missing in
+    let observed = rw (c.as_slice.ensures, c.form_of.ensures.form) at c.in_err-push_form.ensures.missing in
     let p = err_from_is_err_and c.from_residual-in_err-push_form.result c.from_residual-in_err-push_form.ensures.1 in
-    rw (p.1, p.2) (tells_first environment text _ _ _ _ (sym c.loop-before.invariant.lack ∙ step) told)
+    rw (p.1, p.2) (reports_first environment text _ _ _ _ (sym c.loop-before.invariant.lack ∙ step) observed)
 
 -- what stands behind the next `$`
 unclosed_after : (n : ℕ) (rest before after : List ℕ) → rest ≡ before ++ (36 ∷ after) → IsUnclosed n rest → IsUnclosed n after

@@ -1,13 +1,13 @@
 use Rattle.std.proofs.Common.{refl}
 use Rattle.vx_tasks.proofs.Alone.{made_reads, next_readable}
-use Rattle.vx_tasks.proofs.Saying.{made_told}
+use Rattle.vx_tasks.proofs.Saying.{made_observed}
 use Rattle.vx_tasks.proofs.work.make.Goals as goal
 
-pub returns-in-Ok-clause-told : goal.returns-in-Ok-clause-told
-returns-in-Ok-clause-told c told h i parcels alone is = made_told told h i c.in-Ok.turned alone c.in-Ok.ensures.reads is
+pub returns-in-Ok-clause-observed : goal.returns-in-Ok-clause-observed
+returns-in-Ok-clause-observed c observed h i parcels alone is = made_observed observed h i c.in-Ok.turned alone c.in-Ok.ensures.reads is
 
 pub returns-in-Ok-clause-acted : goal.returns-in-Ok-clause-acted
-returns-in-Ok-clause-acted c told h i parcels may =
+returns-in-Ok-clause-acted c observed h i parcels may =
     let g = may.come.0 in
     record {
       may = may.given;

@@ -1,11 +1,11 @@
 use Rattle.std.proofs.Common.{◌≡◌, ◌∙◌, true, ap, arith, length, subst, sym, take, List, ◌≤◌, ℕ}
-use Rattle.vx_ends.specs.Told.{Grows}
+use Rattle.vx_ends.specs.Observation.{Grows}
 use Rattle.vx_json.specs.declared.codec.Codec.{Codec}
 use Rattle.vx_record.specs.Encoding.{given, encoded}
 use Rattle.vx_record.specs.Places.Place.{Held}
 use Rattle.vx_record.specs.Shifts.{at}
 use Rattle.vx_record.specs.Installs.{device_at}
-use Rattle.vx_tasks.specs.Home.{HasCome}
+use Rattle.vx_tasks.specs.Unleased.{HasCome}
 use Rattle.vx_tasks.specs.declared.task.Role.TheVariants.{Sink}
 use Rattle.vx_tasks.proofs.Alone.{come_ported}
 use Rattle.vx_tasks.proofs.Saying.{grown}
@@ -22,13 +22,13 @@ returns-in-Ok-answer-clause-acted g c h i may =
       whole = c.of-all.ensures ∙ c.in-Ok.ensures ∙ written_all h i c.codec-codec.result c.args.held.now.items come may.held;
       within = subst (λ (w : List ℕ). c.in-Ok-answer.attempted.sent ≤ length w) sent c.in-Ok-answer.ensures.within;
       ok = λ ok. c.in-Ok-answer.ensures.whole ok ∙ ap length sent;
-      swallowed = λ none. let has : device_at h i ≡ true = come_ported h i (Sink c.codec-codec.result) come in cc;
+      blackhole_ok = λ none. let has : device_at h i ≡ true = come_ported h i (Sink c.codec-codec.result) come in cc;
     }
 
 pub returns-clause-acted : goal.returns-clause-acted
 returns-clause-acted g c h i may =
-    let old = (g.P.Port.told c.args.port.now).given in
-    let new = (g.P.Port.told c.attempt-answer.new.port).given in
+    let old = (g.P.Port.observed c.args.port.now).given in
+    let new = (g.P.Port.observed c.attempt-answer.new.port).given in
     let come : HasCome h i (Sink c.codec-codec.result) = subst (λ (codec : Codec). HasCome h i (Sink codec)) (sym c.codec-codec.ensures) may.come in
     let all : c.as_slice.result.now ≡ encoded h i (at h (Held i)) = c.as_slice.ensures ∙ c.in-Ok.ensures ∙ written_all h i c.codec-codec.result c.args.held.now.items come may.held in
     let nonzero = c.if-short-eq0.false in

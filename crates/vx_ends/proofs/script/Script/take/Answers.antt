@@ -1,17 +1,17 @@
 use Rattle.std.proofs.Common.{◌∙◌, length, ◌≡◌, ap}
 use Rattle.vx_ends.specs.Script.{Progress, progress_of, upcoming, answer_of}
-use Rattle.vx_ends.proofs.ScriptTelling.{tells_from, upcoming_lives, answers_open}
+use Rattle.vx_ends.proofs.ScriptReporting.{reports_from, upcoming_lives, answers_open}
 use Rattle.vx_ends.proofs.script.Script.take.Goals as goal
 
-pub returns-clause-told : goal.returns-clause-told
-returns-clause-told c =
+pub returns-clause-observed : goal.returns-clause-observed
+returns-clause-observed c =
     let inside = c.self.inside in
     let from : Progress = progress_of inside.steps inside.place.step inside.place.offset in
     let live : Progress = progress_of inside.steps c.live_place-place.result.step c.live_place-place.result.offset in
     let same = rw c.as_slice.ensures at c.live_place-place.ensures.past in
     let rest = rw c.as_slice.ensures at c.live_place-place.ensures.rest in
-    let told = rw c.as_slice-2.ensures at c.play-answer.ensures.told in
-    rw (← c.self.view_is) (tells_from from live _ _ _ same rest told)
+    let observed = rw c.as_slice-2.ensures at c.play-answer.ensures.observed in
+    rw (← c.self.view_is) (reports_from from live _ _ _ same rest observed)
 
 pub returns-clause-live : goal.returns-clause-live
 returns-clause-live c =

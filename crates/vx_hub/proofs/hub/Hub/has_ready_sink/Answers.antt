@@ -5,5 +5,5 @@ use Rattle.vx_hub.proofs.hub.Hub.has_ready_sink.Goals as goal
 
 pub returns-in-None-clause-none : goal.returns-in-None-clause-none
 returns-in-None-clause-none g c held sound =
-    let books = c.args.self.now.books in
-    subst (λ (now : ℕ). NoneFilled sink_at books now (length books.seats)) c.max.ensures c.in-None.ensures.none
+    let engine = c.args.self.now.engine in
+    subst (λ (now : ℕ). NoneFilled sink_at engine now (length engine.states)) c.max.ensures c.in-None.ensures.none

@@ -5,9 +5,9 @@ use Rattle.vx_hub.proofs.hub.Hub.pending.Given as goal
 
 abbrev pub invariant-loop-i : goal.invariant-loop-i
 invariant-loop-i g l = record {
-  within : l.from ≤ length l.self.books.places;
-  none : abandoned l.self.books.log ≡ false → NoneMovesBelow l.from l.self.books;
+  within : l.from ≤ length l.self.engine.places;
+  none : abandoned l.self.engine.log ≡ false → NoneMovesBelow l.from l.self.engine;
 }
 
 abbrev pub decreases-loop-i : goal.decreases-loop-i
-decreases-loop-i g l = length l.self.books.places - l.from
+decreases-loop-i g l = length l.self.engine.places - l.from

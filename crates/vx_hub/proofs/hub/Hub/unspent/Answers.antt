@@ -7,11 +7,11 @@ use Rattle.vx_hub.proofs.hub.Hub.unspent.Goals as goal
 
 pub returns-then-is_none : goal.returns-then-is_none
 returns-then-is_none g c =
-    let books = c.args.self.now.books in
+    let engine = c.args.self.now.engine in
     let live = live_is c.is_settled.result c.is_settled.ensures c.requires.hub.stands.balance in
-    (λ e. (live.0 e, unabandoned books.log (none_known g.P.Port.told books c.requires.hub.stands c.if-is_none.ensures)), λ both. live.1 both.0)
+    (λ e. (live.0 e, unabandoned engine.log (none_known g.P.Port.observed engine c.requires.hub.stands c.if-is_none.ensures)), λ both. live.1 both.0)
 
 pub returns-else-is_none : goal.returns-else-is_none
 returns-else-is_none g c =
-    let over = over_known g.P.Port.told c.args.self.now.books c.requires.hub.stands c.if-is_none.ensures in
-    rw c.if-is_none.false (λ e. cc, λ both. let going : abandoned c.args.self.now.books.log ≡ false = both.1 in cc)
+    let over = over_known g.P.Port.observed c.args.self.now.engine c.requires.hub.stands c.if-is_none.ensures in
+    rw c.if-is_none.false (λ e. cc, λ both. let going : abandoned c.args.self.now.engine.log ≡ false = both.1 in cc)

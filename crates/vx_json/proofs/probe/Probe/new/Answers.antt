@@ -1,6 +1,6 @@
 use Rattle.std.proofs.Common.{ℕ, ap}
 use Rattle.vx_json.specs.Probing.{HasProbed}
-use Rattle.vx_json.specs.Spots.{Before, stands}
+use Rattle.vx_json.specs.ProbeModes.{Before, stands}
 use Rattle.vx_json.proofs.probe.Probe.new.Goals as goal
 
 pub returns : goal.returns

@@ -1,6 +1,6 @@
 use Rattle.std.proofs.Common.{◌≡◌, ℕ, true, [], List, subst}
 use Rattle.vx_record.specs.Records.{Record}
-use Rattle.vx_record.specs.Inputs.{Input as Told}
+use Rattle.vx_record.specs.Inputs.{Input as NotedInput}
 use Rattle.vx_keeping.specs.Kept.{Kept}
 use Rattle.vx_keeping.specs.Stored.{kept_of}
 use Rattle.vx_keeping.specs.Keeping.{Keeps, HasMade}
@@ -11,7 +11,7 @@ use Rattle.vx_keeping.proofs.keeper.Keeper.due.Goals as goal
 pub returns-clause-made : goal.returns-clause-made
 returns-clause-made c =
     let f = c.self.inside in
-    subst (λ (k : Kept). (h : Record) (i : ℕ) (given : List Told) → HasMade k h i given → IsDueBehind c.due.result h i given) c.self.view_is
+    subst (λ (k : Kept). (h : Record) (i : ℕ) (given : List NotedInput) → HasMade k h i given → IsDueBehind c.due.result h i given) c.self.view_is
     (λ h i given made. due_behind (kept_of f.store f.loose f.fit) c.due.result c.due.ensures.moment c.due.ensures.stands h i given made.given)
 
 pub returns-clause-keeps : goal.returns-clause-keeps

@@ -1,11 +1,11 @@
 use Rattle.std.proofs.Common.{ℕ, List, [], ◌∷◌, ◌++◌, map, subst}
 use Rattle.vx_record.specs.Records.{Record}
-use Rattle.vx_record.specs.Inputs.{Input as Told}
+use Rattle.vx_record.specs.Inputs.{Input as NotedInput}
 use Rattle.vx_reduce.specs.Inputs.{at_end}
 use Rattle.vx_keeping.specs.Kept.{Kept, copies_kept}
 use Rattle.vx_keeping.specs.Given.{SameCopies}
 use Rattle.vx_keeping.specs.Stored.{kept_of}
-use Rattle.vx_keeping.specs.Keeping.{told, Accounts, Keeps, HasMade}
+use Rattle.vx_keeping.specs.Keeping.{noted_input, Accounts, Keeps, HasMade}
 use Rattle.vx_keeping.proofs.Calls.{more_then, short_same, short_then, with_loose}
 use Rattle.vx_keeping.proofs.keeper.Keeper.flush.Goals as goal
 
@@ -14,7 +14,7 @@ returns-in-Ok-clause-made c =
     let f = c.self.inside in
     let fits = c.if-not-self.false in
     let o = c.in-Ok.ensures in
-    subst (λ (k : Kept). (h : Record) (i : ℕ) (given : List Told) → HasMade k h i given → HasMade (kept_of c.flush.new.self f.loose f.fit) h i (given ++ map told (at_end ∷ []))) c.self.view_is
+    subst (λ (k : Kept). (h : Record) (i : ℕ) (given : List NotedInput) → HasMade k h i given → HasMade (kept_of c.flush.new.self f.loose f.fit) h i (given ++ map noted_input (at_end ∷ []))) c.self.view_is
     (more_then (at_end ∷ []) f.store c.flush.new.self f.loose f.fit fits (c.self.invariant.clear fits).1 o.given c.flush.ensures.same c.flush.ensures.taken)
 
 pub returns-in-Ok-clause-same : goal.returns-in-Ok-clause-same

@@ -1,5 +1,5 @@
 use Rattle.std.proofs.Common.{List, sym, ◌∙◌, ap}
-use Rattle.vx_value.specs.Texts.{Word}
+use Rattle.vx_value.specs.Texts.{ByteString}
 use Rattle.vx_value.specs.Datum.{Datum, Items, Fields, NamedDatum, data_of, named_of}
 use Rattle.vx_value.specs.Events.{value_at}
 use Rattle.vx_value.specs.Values.{datum_of}
@@ -15,7 +15,7 @@ returns c = elim c.match-fields.branch [
   | in-Match+in_ok-items_at-in-Match w ↦
       ap datum_of w.value-is
       ∙ ap (λ (ds : List Datum). Items (data_of ds))
-      (w.in_ok-items_at-in-Match.ensures ∙ sym (map_twice key_item (λ (path : List Word). value_at c.args.event.now.fields path) w.in-Match.paths))
+      (w.in_ok-items_at-in-Match.ensures ∙ sym (map_twice key_item (λ (path : List ByteString). value_at c.args.event.now.fields path) w.in-Match.paths))
       ∙ ap (λ (by : DedupeFields). key_datum (dedupe_key by c.args.event.now)) (sym w.in-Match.is)
   | in-Ignore+in_ok-fields_but-in-Ignore w ↦
       ap datum_of w.value-is ∙ ap (λ (fs : List NamedDatum). Fields (named_of fs)) w.in_ok-fields_but-in-Ignore.ensures

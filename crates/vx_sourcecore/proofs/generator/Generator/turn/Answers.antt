@@ -1,7 +1,7 @@
 use Rattle.std.proofs.Common.{◌≡◌, ◌∙◌, ℕ, ◌<◌, length, take, arith, refl, sym, ap, subst}
 use Rattle.std.specs.Prelude.{IfSome}
 use Rattle.std.proofs.lemmas.List.{take_all}
-use Rattle.vx_value.specs.Texts.{Word}
+use Rattle.vx_value.specs.Texts.{ByteString}
 use Rattle.vx_sourcecore.specs.declared.source.Cut.{Cut}
 use Rattle.vx_sourcecore.specs.declared.source.SourceCore.{SourceCore}
 use Rattle.vx_sourcecore.specs.declared.generator.Generator.{Generator}
@@ -30,8 +30,8 @@ returns-clause-made c =
     let most : c.next_lines.new.self.most ≡ old.most = ap (λ (g : Generator). g.most) c.in_ok-bytes.ensures.given in
     let left : 0 < left_of old.lines = omega (arith, c.left-left.ensures.left, c.if-left-eq0.false) in
     let whole : take c.in_ok-bytes.n c.of-room.result.value.items ≡ c.in_ok-bytes.bytes.items =
-    ap (λ (w : Word). take c.in_ok-bytes.n w) (ap (λ v. v.items) c.of-room.ensures) ∙ take_all c.in_ok-bytes.n c.in_ok-bytes.bytes.items (omega (arith, c.in_ok-bytes.ensures.bytes)) in
+    ap (λ (w : ByteString). take c.in_ok-bytes.n w) (ap (λ v. v.items) c.of-room.ensures) ∙ take_all c.in_ok-bytes.n c.in_ok-bytes.bytes.items (omega (arith, c.in_ok-bytes.ensures.bytes)) in
     let fed = subst (λ (s : SourceCore). IfSome c.feed-cut.result (λ (brought : Cut). HasFed s 0 c.as_slice.result.now brought c.feed-cut.new.self)) core c.feed-cut.ensures in
     let taken : c.as_slice.result.now ≡ take c.in_ok-bytes.n c.of-room.result.value.items = c.as_slice.ensures.value ∙ sym whole in
     λ h i over is. fed_made h i old _ (take c.in_ok-bytes.n c.of-room.result.value.items) c.feed-cut.result over is left (whole ∙ c.in_ok-bytes.ensures.lines) lines most
-    (subst (λ (w : Word). IfSome c.feed-cut.result (λ (brought : Cut). HasFed old.core 0 w brought c.feed-cut.new.self)) taken fed)
+    (subst (λ (w : ByteString). IfSome c.feed-cut.result (λ (brought : Cut). HasFed old.core 0 w brought c.feed-cut.new.self)) taken fed)

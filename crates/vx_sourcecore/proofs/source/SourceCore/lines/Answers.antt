@@ -2,7 +2,7 @@ use Rattle.std.proofs.Common.{◌≡◌, ◌∙◌, List, [], ◌∷◌, Option,
 use Rattle.std.specs.Prelude.{◌==◌}
 use Rattle.std.proofs.lemmas.Iterator.Adapters.{YieldsList-from_vec}
 use Rattle.std.proofs.lemmas.Iterator.Consumers.{YieldsList-end}
-use Rattle.vx_value.specs.Texts.{Word}
+use Rattle.vx_value.specs.Texts.{ByteString}
 use Rattle.vx_frame.specs.declared.line.Line.{Line}
 use Rattle.vx_json.specs.LineEvents.{line_fields}
 use Rattle.vx_sourcecore.specs.declared.source.Cut.{Cut}
@@ -25,8 +25,8 @@ loop-line-preserved c =
     let line = c.in-Some.line in
     let now : Cut = record { events = c.push.new.events; end = line.end; new = c.line.new.self } in
     line_step d source_type file c.loop-line.yielded line c.in_ok-event.event c.is_empty-bare.result c.is_some.result c.loop-line.cut now
-    (c.in_ok-event.ensures ∙ ap (λ (o : Option Word). line_fields d source_type o line.bytes) c.as_ref-file.ensures.value)
-    (c.is_empty-bare.ensures ∙ ap (λ (w : Word). length w == 0) c.as_slice.ensures ∙ none_there line.bytes)
+    (c.in_ok-event.ensures ∙ ap (λ (o : Option ByteString). line_fields d source_type o line.bytes) c.as_ref-file.ensures.value)
+    (c.is_empty-bare.ensures ∙ ap (λ (w : ByteString). length w == 0) c.as_slice.ensures ∙ none_there line.bytes)
     c.is_some.ensures c.line.ensures c.in_ok-push.ensures refl c.loop-line.invariant
 
 pub returns : goal.returns

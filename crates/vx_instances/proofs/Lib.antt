@@ -1,0 +1,9 @@
+pub mod Observing
+pub mod Owing
+pub mod Progressing
+pub mod Holding
+pub mod Staying
+pub mod Knowing
+pub mod Steps
+pub mod Aside
+pub mod Beginning

@@ -1,0 +1,12 @@
+use Rattle.std.proofs.Common.{refl}
+use Rattle.vx_instances.proofs.Staying.{stay}
+use Rattle.vx_instances.proofs.Steps.{answered_knows}
+use Rattle.vx_instances.proofs.states.InstanceStates.answered.Goals as goal
+
+pub returns-clause-knows : goal.returns-clause-knows
+returns-clause-knows g c = λ h outputs discarded kept sent dropped.
+    answered_knows c.args.i c.self.view_is c.requires c.index_mut.ensures.value h outputs discarded kept
+    (λ legal. c.answered.ensures h c.args.i outputs discarded kept legal sent dropped)
+
+pub returns-clause-stays : goal.returns-clause-stays
+returns-clause-stays g c = stay c.args.i c.self.view_is c.requires c.index_mut.ensures.value _ _ _ refl refl refl

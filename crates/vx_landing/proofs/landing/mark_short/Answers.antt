@@ -1,9 +1,0 @@
-use Rattle.std.proofs.Common.{refl}
-use Rattle.vx_landing.proofs.Answering.{marked}
-use Rattle.vx_landing.proofs.landing.mark_short.Goals as goal
-
-pub returns : goal.returns
-returns g c =
-    let r = c.requires in
-    let e = c.owed.ensures in
-    record { stands = marked r.stands e.size (e.knows c.args.books.now.log r.stands.seats); log = refl; places = refl; run = refl; seats = e.owing }

@@ -1,5 +1,0 @@
-use Rattle.vx_record.specs.declared.entry.Entry.TheVariants.{Closed}
-use Rattle.vx_moves.proofs.books.Books.close.Given as goal
-
-abbrev pub ghost-note : goal.ghost-note
-ghost-note g a = Closed a._shown.now

@@ -1,7 +1,0 @@
-use Rattle.vx_moves.proofs.Stepping.{plain_step}
-use Rattle.vx_moves.proofs.books.Books.confirm.Goals as goal
-
-pub returns-clause-steps : goal.returns-clause-steps
-returns-clause-steps g c =
-    let s = c.requires.stands in
-    plain_step s (assumption) (λ j joins. tt) c.requires.may c.requires.left c.note.ensures (c.confirmed.ensures.knows c.args.self.now.log s.seats) c.confirmed.ensures.size

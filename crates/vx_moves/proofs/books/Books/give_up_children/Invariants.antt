@@ -1,9 +1,0 @@
-use Rattle.vx_moves.specs.Spends.{unspent}
-use Rattle.vx_moves.proofs.Spending.{GivesUp}
-use Rattle.vx_moves.proofs.books.Books.give_up_children.Given as goal
-
-abbrev pub invariant-loop : goal.invariant-loop
-invariant-loop g l = GivesUp g.P.Port.told l.i l.fn.self l.self
-
-abbrev pub decreases-loop : goal.decreases-loop
-decreases-loop g l = unspent l.self.log

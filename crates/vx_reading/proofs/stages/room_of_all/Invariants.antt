@@ -1,8 +1,0 @@
-use Rattle.std.proofs.Common.{◌≡◌, ◌+◌, drop}
-use Rattle.vx_reading.specs.Stages.{room_of_all}
-use Rattle.vx_reading.specs.Views.{parts_view}
-use Rattle.vx_reading.proofs.stages.room_of_all.Given as goal
-
--- what is left to add makes the sum whole
-abbrev pub invariant-loop-part : goal.invariant-loop-part
-invariant-loop-part l = l.room + room_of_all (parts_view (drop l.part-index l.all)) ≡ room_of_all (parts_view l.all)

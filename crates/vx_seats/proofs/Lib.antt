@@ -1,9 +1,0 @@
-pub mod Telling
-pub mod Owing
-pub mod Progressing
-pub mod Holding
-pub mod Staying
-pub mod Knowing
-pub mod Steps
-pub mod Aside
-pub mod Beginning
