@@ -3,12 +3,12 @@ ghost use Rattle.vx_frame.specs.Frames.{capped};
 ghost use Rattle.vx_frame.specs.Framings.{lines_behind, overlong_behind, left_behind, line_of};
 ghost use Rattle.vx_frame.specs.Pieces.{kept, counted};
 
-use crate::line::{Line, LineList};
+use crate::line::{Line, LineList, with_room_for};
 use crate::unfinished::Unfinished;
 use memchr::memchr;
 use std::alloc::Global;
 use std::mem;
-use vx_value::{Bytes, ItemList, WantOfMemory};
+use vx_value::{Bytes, WantOfMemory};
 
 /// What the bytes of a piece bring.
 #[derive(Drop)]
@@ -109,7 +109,7 @@ impl Advance {
     {
         let room = limit as usize + 1;
         let mut advance = Advance {
-            lines: ItemList::new(alloc),
+            lines: with_room_for(alloc, bytes)?,
             overlong,
             left,
         };

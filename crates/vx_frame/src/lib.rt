@@ -8,4 +8,4 @@ mod piece;
 mod unfinished;
 
 pub use framer::Framer;
-pub use line::{Line, LineList};
+pub use line::{Line, LineList, with_room_for};

@@ -1,4 +1,10 @@
-use vx_value::{Bytes, ItemList};
+ghost use Rattle.std.specs.Prelude.{◌≡◌, [], IfOk};
+
+use std::alloc::Global;
+use vx_value::{Bytes, ItemList, WantOfMemory};
+
+// How many bytes of a stream a line is reckoned to take where room is made for lines.
+const BYTES_A_LINE: usize = 64;
 
 /// A line of a stream.
 #[derive(Drop)]
@@ -13,3 +19,13 @@ pub struct Line {
 
 /// A list of lines.
 pub type LineList = ItemList<Line>;
+
+/// No lines, with room for those that bytes of a stream are reckoned to end, so that the list seldom grows.
+pub fn with_room_for(alloc: Global, bytes: &[u8]) -> Result<LineList, WantOfMemory>
+    ensures { IfOk result (λ lines. lines ≡ []) }
+{
+    match Vec::with_capacity(alloc, bytes.len() / BYTES_A_LINE) {
+        Ok(lines) => Ok(LineList::from_vec(lines)),
+        Err(_) => Err(WantOfMemory),
+    }
+}

@@ -2,7 +2,7 @@ ghost use Rattle.std.specs.Prelude.{◌≡◌, IfSome};
 ghost use Rattle.vx_sourcecore.specs.Sources.{HasFramed};
 
 use std::alloc::Global;
-use vx_frame::{Framer, LineList};
+use vx_frame::{Framer, LineList, with_room_for};
 
 /// The lines that bytes of a stream complete, and how many more are too long; `None` where no memory is found.
 pub(crate) fn framed(
@@ -16,7 +16,7 @@ pub(crate) fn framed(
     ensures framed { IfSome result
         (λ lines. HasFramed framer.old stream bytes.now lines.0 lines.1 framer.new) }
 {
-    let mut lines = LineList::new(alloc);
+    let mut lines = with_room_for(alloc, bytes).ok()?;
     let fed = framer.feed(stream, bytes, &mut lines);
     let overlong = framer.take_overlong();
     if fed.is_err() {
