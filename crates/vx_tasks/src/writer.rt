@@ -6,7 +6,7 @@ use vx_json::Codec;
 use vx_value::Bytes;
 
 // Memory of more bytes isn't kept for the next batch.
-const KEPT: usize = 1 << 16;
+const KEPT: usize = 1 << 18;
 
 /// How a sink writes what it holds, and the memory in which it wrote last. Contracts see the codec.
 #[derive(Drop)]
