@@ -1,7 +1,7 @@
 use std::alloc::Global;
 use std::process::Abort;
 use std::test::Fail;
-use vx_frame::{Framer, LineList};
+use vx_frame::{Framer, LineList, with_room_for};
 use vx_value::{ItemList, WantOfMemory};
 
 // What one line is: its stream, its bytes and its end.
@@ -81,7 +81,7 @@ fn lines_however_cut(rt: HostRuntime) -> Result<(), Fail> {
 #[test]
 fn counts_of_long_lines(rt: HostRuntime) -> Result<(), Fail> {
     let mut framer = Framer::new(rt.alloc(), 1);
-    let mut out = ItemList::new(rt.alloc());
+    let mut out = with_room_for(rt.alloc(), b"ab\n")?;
     feed(&mut framer, b"ab\n", &mut out)?;
     has_counts(&rt, &framer, &out, 0, 1);
     assert_eq!(rt; framer.take_overlong(), 1);

@@ -1,10 +1,9 @@
 -- The fields of an object that is read, in a tree.
-use Rattle.std.proofs.Common.{◌≡◌, true, false, List, [], ◌∷◌, ◌++◌, refl, sym, ◌∙◌, ap, String, Global, string_bytes}
+use Rattle.std.proofs.Common.{◌≡◌, true, false, List, [], ◌∷◌, ◌++◌, refl, sym, ◌∙◌, ap}
 use Rattle.std.specs.declared.cmp.Ordering.{Ordering}
 use Rattle.std.specs.declared.cmp.Ordering.TheVariants.{Less, Equal, Greater}
 use Rattle.std.specs.Ordering.{match_ordering}
 use Rattle.std.specs.BTreeMap.{insert_entry}
-use Rattle.std.specs.String.{string_cmp}
 use Rattle.std.specs.List.Sorted.{IsStrictlySortedBy}
 use Rattle.std.specs.Map.{keys_of}
 use Rattle.vx_value.specs.Texts.{ByteString, text_lt}
@@ -15,8 +14,13 @@ use Rattle.vx_value.specs.Values.{datum_of}
 use Rattle.vx_value.specs.declared.value.Value.{Value}
 use Rattle.vx_value.proofs.Order.{less_not_more, less_not_same', answer_less, answer_more, observed_same, same_text-true, same_text-refl}
 use Rattle.vx_json.specs.ObjectBuilders.{tree_fields}
+use Rattle.vx_json.specs.declared.name.Name.{Name}
 use Rattle.vx_json.proofs.Choices.{both_true, and_true}
 use Rattle.vx_json.proofs.Putting.{field}
+
+-- names as a tree orders them
+abbrev name_cmp : Name → Name → Ordering
+name_cmp m n = text_cmp m.text n.text
 
 -- a name before the first comes first
 with-first : (f : NamedDatum) (fs : List NamedDatum) (name : ByteString) (v : Datum) → text_lt name f.name ≡ true → with_field (f ∷ fs) name v ≡ field name v ∷ f ∷ fs
@@ -31,19 +35,19 @@ with-later : (f : NamedDatum) (fs : List NamedDatum) (name : ByteString) (v : Da
 with-later f fs name v h = rw h refl
 
 -- an entry of a tree is a field that is put
-pub tree-insert : (es : List (String Global × Value)) (k : String Global) (v : Value) → tree_fields (insert_entry string_cmp es k v) ≡ with_field (tree_fields es) (string_bytes k) (datum_of v)
+pub tree-insert : (es : List (Name × Value)) (k : Name) (v : Value) → tree_fields (insert_entry name_cmp es k v) ≡ with_field (tree_fields es) k.text (datum_of v)
 tree-insert [] k v = refl
-tree-insert (e ∷ es) k v = by_order (string_cmp k e.0) refl (tree-insert es k v)
+tree-insert (e ∷ es) k v = by_order (name_cmp k e.0) refl (tree-insert es k v)
   where
     name : ByteString
-    name = string_bytes k
+    name = k.text
 
     first : NamedDatum
-    first = field (string_bytes e.0) (datum_of e.1)
+    first = field e.0.text (datum_of e.1)
 
-    by_order : (o : Ordering) → o ≡ text_cmp (string_bytes k) (string_bytes e.0) →
-        tree_fields (insert_entry string_cmp es k v) ≡ with_field (tree_fields es) (string_bytes k) (datum_of v) →
-        tree_fields (match_ordering o ((k, v) ∷ e ∷ es) ((e.0, v) ∷ es) (e ∷ insert_entry string_cmp es k v)) ≡ with_field (first ∷ tree_fields es) name (datum_of v)
+    by_order : (o : Ordering) → o ≡ text_cmp k.text e.0.text →
+        tree_fields (insert_entry name_cmp es k v) ≡ with_field (tree_fields es) k.text (datum_of v) →
+        tree_fields (match_ordering o ((k, v) ∷ e ∷ es) ((e.0, v) ∷ es) (e ∷ insert_entry name_cmp es k v)) ≡ with_field (first ∷ tree_fields es) name (datum_of v)
     by_order Less h later = sym (with-first first (tree_fields es) name (datum_of v) (sym (answer_less name first.name Less h)))
     by_order Equal h later =
         let same : name ≡ first.name = same_text-true name first.name (sym (observed_same name first.name Equal h)) in
@@ -67,9 +71,9 @@ put-front f [] r = refl
 put-front f (g ∷ fs) r = with-first g fs f.name f.value (both_true (text_lt f.name g.name) (names_rise (g ∷ fs)) r).0
 
 -- the names of a tree rise
-pub tree-rises : (es : List (String Global × Value)) → IsStrictlySortedBy string_cmp (keys_of es) → names_rise (tree_fields es) ≡ true
+pub tree-rises : (es : List (Name × Value)) → IsStrictlySortedBy name_cmp (keys_of es) → names_rise (tree_fields es) ≡ true
 unfolding IsStrictlySortedBy
 tree-rises [] s = refl
 tree-rises (e ∷ []) s = refl
 tree-rises (e ∷ d ∷ es) s =
-    and_true _ _ (sym (answer_less (string_bytes e.0) (string_bytes d.0) Less (sym s.0.0))) (tree-rises (d ∷ es) s.1)
+    and_true _ _ (sym (answer_less e.0.text d.0.text Less (sym s.0.0))) (tree-rises (d ∷ es) s.1)

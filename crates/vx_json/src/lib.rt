@@ -10,6 +10,7 @@ mod laws;
 mod leaf;
 mod line;
 mod mode;
+mod name;
 mod nesting;
 mod number_move;
 mod number_place;

@@ -3,6 +3,7 @@ ghost use Rattle.vx_value.specs.Events.{with_field};
 ghost use Rattle.vx_value.specs.Values.{datum_of};
 ghost use Rattle.vx_json.specs.ObjectBuilders.{tree_fields};
 
+use crate::name::Name;
 use crate::put_field::{last_order, put_field};
 use std::alloc::Global;
 use std::collections::BTreeMap;
@@ -18,7 +19,7 @@ enum Kept {
     /// Few fields, or more whose names came in rising order.
     List(FieldList),
     /// More fields, by their names.
-    Tree(BTreeMap<String, Value, Global>),
+    Tree(BTreeMap<Name, Value, Global>),
 }
 
 /// The fields of an object so far. However their names come, all of them take time in n log n of their number.
@@ -71,11 +72,11 @@ impl ObjectBuilder {
         match &mut self.kept {
             Kept::List(fields) => {
                 let mut tree = plant(alloc, fields)?;
-                insert(alloc, &mut tree, name, value)?;
+                insert(&mut tree, name, value)?;
                 self.kept = Kept::Tree(tree);
                 Ok(())
             }
-            Kept::Tree(tree) => insert(alloc, tree, name, value),
+            Kept::Tree(tree) => insert(tree, name, value),
         }
     }
 
@@ -98,8 +99,7 @@ fn stays_list(fields: &FieldList, name: &str) -> bool {
 
 /// Puts a value under a name, in place of one that stands there.
 fn insert(
-    alloc: Global,
-    tree: &mut BTreeMap<String, Value, Global>,
+    tree: &mut BTreeMap<Name, Value, Global>,
     name: Text,
     value: Value,
 ) -> Result<(), WantOfMemory>
@@ -107,8 +107,7 @@ fn insert(
         (tree_fields tree.new.entries
         ≡ with_field (tree_fields tree.old.entries) name (datum_of value)) }
 {
-    let name = name.into_string(alloc)?;
-    match tree.insert(name, value) {
+    match tree.insert(Name { text: name }, value) {
         Ok(_before) => Ok(()),
         Err(_) => Err(WantOfMemory),
     }
@@ -118,27 +117,29 @@ fn insert(
 fn plant(
     alloc: Global,
     fields: &mut FieldList,
-) -> Result<BTreeMap<String, Value, Global>, WantOfMemory>
+) -> Result<BTreeMap<Name, Value, Global>, WantOfMemory>
     ensures { IfOk result (λ tree. tree_fields tree.entries ≡ fields.old) }
 {
     let _ = fields.len();
     let mut tree = BTreeMap::new(alloc);
     while let Some(field) = fields.pop() {
-        insert(alloc, &mut tree, field.name, field.value)?;
+        insert(&mut tree, field.name, field.value)?;
     }
     Ok(tree)
 }
 
 /// The fields in order of their names.
-fn harvest(alloc: Global, tree: BTreeMap<String, Value, Global>) -> Result<FieldList, WantOfMemory>
+fn harvest(alloc: Global, tree: BTreeMap<Name, Value, Global>) -> Result<FieldList, WantOfMemory>
     ensures { IfOk result (λ fields. fields ≡ tree_fields tree.entries) }
 {
     let _ = tree.len();
     let mut tree = tree;
     let mut fields = FieldList::new(alloc);
     while let Some((name, value)) = tree.pop_first() {
-        let name = Text::from_string(name);
-        match fields.push(Field { name, value }) {
+        match fields.push(Field {
+            name: name.text,
+            value,
+        }) {
             Ok(()) => {}
             Err(_) => return Err(WantOfMemory),
         }
