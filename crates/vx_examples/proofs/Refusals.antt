@@ -5,7 +5,7 @@ use Rattle.std.specs.List.{list_any}
 use Rattle.vx_value.specs.Texts.{same_text}
 use Rattle.vx_value.specs.declared.event.Event.{Event}
 use Rattle.vx_ends.specs.declared.position.Position.{Position}
-use Rattle.vx_json.specs.declared.codec.Codec.TheVariants as codec
+use Rattle.vx_codec.specs.declared.codec.Codec.TheVariants as codec
 use Rattle.vx_record.specs.declared.child.Child.{Child}
 use Rattle.vx_record.specs.Copies.{contains}
 use Rattle.vx_record.specs.Encoding.{encode_event}

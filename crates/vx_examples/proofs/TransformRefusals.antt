@@ -7,7 +7,7 @@ use Rattle.std.specs.Str.{chars, is_utf8}
 use Rattle.std.specs.Str.Lossy.{utf8_lossy, utf8_valid_len}
 use Rattle.vx_value.specs.Texts.{ByteString, same_text}
 use Rattle.vx_value.specs.declared.event.Event.{Event}
-use Rattle.vx_json.specs.declared.codec.Codec.TheVariants as codec
+use Rattle.vx_codec.specs.declared.codec.Codec.TheVariants as codec
 use Rattle.vx_condition.specs.Steps.{Test}
 use Rattle.vx_condition.specs.Picking.{or_unmatched, route_ports}
 use Rattle.vx_record.specs.declared.output.Output.{Output}

@@ -5,7 +5,7 @@ use Rattle.vx_value.specs.Texts.{ByteString}
 use Rattle.vx_plan.specs.declared.component.Component.{Component}
 use Rattle.vx_plan.specs.declared.class.Class.TheVariants.{Transform, Sink}
 use Rattle.vx_plan.specs.declared.settings.Settings.TheVariants.{Filter, Console}
-use Rattle.vx_json.specs.declared.codec.Codec.TheVariants as codec
+use Rattle.vx_codec.specs.declared.codec.Codec.TheVariants as codec
 use Rattle.vx_plan.specs.declared.console_target.ConsoleTarget.TheVariants.{Stdout}
 use Rattle.vx_plan.specs.declared.plan.Plan.{Plan}
 use Rattle.vx_plan.specs.Components.{retry_wait}

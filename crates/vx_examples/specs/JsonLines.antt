@@ -4,8 +4,8 @@ use Rattle.std.specs.Prelude.{◌-◌, ◌^◌, pos, false, true, [], ◌∷◌,
 use Rattle.vx_value.specs.Texts.{ByteString}
 use Rattle.vx_value.specs.declared.event.Event.{Event}
 use Rattle.vx_value.specs.Datum.{Words, Whole}
-use Rattle.vx_json.specs.declared.codec.Codec.TheVariants as codec
-use Rattle.vx_json.specs.declared.decoding.Decoding.TheVariants as decoding
+use Rattle.vx_codec.specs.declared.codec.Codec.TheVariants as codec
+use Rattle.vx_codec.specs.declared.decoding.Decoding.TheVariants as decoding
 use Rattle.vx_ends.specs.declared.trouble.Reply.TheVariants.{Ok}
 use Rattle.vx_status.specs.declared.outcome.Outcome.TheVariants.{Delivered}
 use Rattle.vx_status.specs.declared.batch_status.BatchStatus.TheVariants as batch

@@ -9,7 +9,7 @@ use Rattle.vx_plan.specs.declared.component.Component.{Component}
 use Rattle.vx_plan.specs.declared.class.Class.TheVariants.{Sink}
 use Rattle.vx_plan.specs.declared.settings.Settings.TheVariants.{Console}
 use Rattle.vx_plan.specs.declared.console_target.ConsoleTarget.TheVariants.{Stdout}
-use Rattle.vx_json.specs.declared.codec.Codec.TheVariants as codec
+use Rattle.vx_codec.specs.declared.codec.Codec.TheVariants as codec
 use Rattle.vx_record.specs.declared.taken.Taken.TheVariants.{Bytes, AllEnded}
 use Rattle.vx_examples.specs.Parts.{source, options, overflow, drop, plan_with, new_instance, event_with}
 use Rattle.vx_record.specs.declared.entry.Entry.TheVariants.{Install, Lease, Home, Read, Born, Split, Push, Take, Attempt, Spent, Notice, Confirm, Closed, Retired}

@@ -1,7 +1,7 @@
 -- Records that begin with a plan that may not be installed, and that no further entry makes legal.
 use Rattle.std.specs.Prelude.{false, List, [], ◌∷◌, codes}
-use Rattle.vx_json.specs.declared.codec.Codec.TheVariants as codec
-use Rattle.vx_json.specs.declared.decoding.Decoding.TheVariants as decoding
+use Rattle.vx_codec.specs.declared.codec.Codec.TheVariants as codec
+use Rattle.vx_codec.specs.declared.decoding.Decoding.TheVariants as decoding
 use Rattle.vx_plan.specs.declared.class.Class.TheVariants.{Source, Transform, Sink}
 use Rattle.vx_plan.specs.declared.component.Component.{Component}
 use Rattle.vx_plan.specs.declared.console_target.ConsoleTarget.TheVariants.{Stdout}

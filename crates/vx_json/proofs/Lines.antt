@@ -4,8 +4,8 @@ use Rattle.vx_value.specs.Texts.{ByteString, is_empty}
 use Rattle.vx_value.specs.Datum.{NamedDatum}
 use Rattle.vx_json.specs.Objects.{object_of}
 use Rattle.vx_json.specs.LineEvents.{message_of, from_source, content_of, line_fields, is_undecodable, IsContent, IsLineEvent}
-use Rattle.vx_json.specs.declared.decoding.Decoding.{Decoding}
-use Rattle.vx_json.specs.declared.decoding.Decoding.TheVariants as decoding
+use Rattle.vx_codec.specs.declared.decoding.Decoding.{Decoding}
+use Rattle.vx_codec.specs.declared.decoding.Decoding.TheVariants as decoding
 use Rattle.vx_json.proofs.Choices.{both_true, and_true}
 use Rattle.vx_json.proofs.Objects.{object-of-event, event-of-object}
 

@@ -5,8 +5,8 @@ use Rattle.vx_value.specs.Datum.{Datum, Null, Truth, Whole, Spelled, Words, Item
 use Rattle.vx_value.specs.Events.{value_under}
 use Rattle.vx_value.specs.declared.event.Event.{Event}
 use Rattle.vx_json.specs.Written.{written}
-use Rattle.vx_json.specs.declared.codec.Codec.{Codec}
-use Rattle.vx_json.specs.declared.codec.Codec.TheVariants as codec
+use Rattle.vx_codec.specs.declared.codec.Codec.{Codec}
+use Rattle.vx_codec.specs.declared.codec.Codec.TheVariants as codec
 
 -- what a line of text has of a value: a text as its bytes, another kind as its JSON text, and nothing where there is none
 abbrev pub message_text : Option Datum → ByteString

@@ -1,7 +1,6 @@
 pub mod Written
 pub mod Growth
 pub mod Encoding
-pub mod Waits
 pub mod Numbers
 pub mod Strings
 pub mod Grammar

@@ -7,8 +7,8 @@ use Rattle.vx_value.specs.Events.{value_under, with_field}
 use Rattle.vx_value.specs.declared.event.Event.{Event}
 use Rattle.vx_json.specs.Faults.{IsEvent}
 use Rattle.vx_json.specs.Objects.{object_of}
-use Rattle.vx_json.specs.declared.decoding.Decoding.{Decoding}
-use Rattle.vx_json.specs.declared.decoding.Decoding.TheVariants as decoding
+use Rattle.vx_codec.specs.declared.decoding.Decoding.{Decoding}
+use Rattle.vx_codec.specs.declared.decoding.Decoding.TheVariants as decoding
 
 -- the fields of a line as text: one, with the line as the message
 abbrev pub message_of : ByteString → List NamedDatum

@@ -5,7 +5,7 @@ use Rattle.vx_value.specs.Datum.{NamedDatum}
 use Rattle.vx_json.specs.Faults.{IsEvent}
 use Rattle.vx_json.specs.Objects.{object_of}
 use Rattle.vx_json.specs.LineEvents.{content_of, line_fields, is_undecodable, IsContent, IsLineEvent}
-use Rattle.vx_json.specs.declared.decoding.Decoding.{Decoding}
+use Rattle.vx_codec.specs.declared.decoding.Decoding.{Decoding}
 
 -- bytes are an object exactly where they are an event, of the same fields
 abbrev pub ObjectIsEvent : Type 0

@@ -4,8 +4,8 @@ ghost use Rattle.vx_value.specs.Events.{value_under};
 ghost use Rattle.vx_value.specs.Values.{datum_of};
 ghost use Rattle.vx_json.specs.Encoding.{message_text, encoded_event};
 
-use crate::codec::Codec;
 use crate::writer::{write, write_value};
+use vx_codec::Codec;
 use vx_value::{Bytes, Event, Value, WantOfMemory};
 
 /// Adds what a line of text has of a value.

@@ -1,8 +1,6 @@
 //! Events and values as JSON, and how sinks write events.
 #![tactic(auto)]
 
-mod codec;
-mod decoding;
 mod encode;
 mod frame;
 mod json_fault;
@@ -30,12 +28,11 @@ mod walk;
 mod word_place;
 mod writer;
 
-pub use codec::Codec;
-pub use decoding::Decoding;
 pub use encode::encode_event;
 pub use json_fault::JsonFault;
 pub use laws::{line_events, one_object};
 pub use line::{line_event, line_into_event};
 pub use probe::Probe;
 pub use reader::read;
+pub use vx_codec::{Codec, Decoding};
 pub use writer::{write, write_value};

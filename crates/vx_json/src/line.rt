@@ -4,11 +4,11 @@ ghost use Rattle.vx_value.specs.Datum.{Words};
 ghost use Rattle.vx_json.specs.Objects.{object_of};
 ghost use Rattle.vx_json.specs.LineEvents.{with_text, from_source, content_of, line_fields, event_fields};
 
-use crate::decoding::Decoding;
 use crate::json_fault::JsonFault;
 use crate::put_field::put_field;
 use crate::reader::read;
 use std::alloc::Global;
+use vx_codec::Decoding;
 use vx_value::{Bytes, Event, FieldList, Text, Value, WantOfMemory};
 
 /// The event of a line as text: its message.

@@ -3,7 +3,7 @@ use Rattle.std.proofs.Common.{◌≡◌, ℕ, zero, suc, ◌<◌, [], ◌∷◌,
 use Rattle.std.specs.Prelude.{◌≢◌, ◌==◌, false}
 use Rattle.std.proofs.lemmas.Bool.Decides.{nat_tests}
 use Rattle.vx_condition.specs.Picking.{filter_passes}
-use Rattle.vx_json.specs.declared.codec.Codec.TheVariants as codec
+use Rattle.vx_codec.specs.declared.codec.Codec.TheVariants as codec
 use Rattle.vx_record.specs.Copies.{count}
 use Rattle.vx_record.specs.Reads.{taken}
 use Rattle.vx_plain.specs.Plain.{Feeds, Chain, readers_of}

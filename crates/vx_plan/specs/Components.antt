@@ -1,7 +1,7 @@
 -- What a component is, and what its options mean.
 use Rattle.std.specs.Prelude.{ℕ, ◌*◌, Bool, true, false, Option, Some, None, List, [], ◌∷◌, find, unwrap_or}
 use Rattle.vx_value.specs.Texts.{ByteString, same_text}
-use Rattle.vx_json.specs.Waits.{wait_after}
+use Rattle.vx_sinkcore.specs.Waits.{wait_after}
 use Rattle.vx_plan.specs.Options.{sink_options, line_limit, transform_ports}
 use Rattle.vx_plan.specs.declared.class.Class.TheVariants.{Source, Transform, Sink}
 use Rattle.vx_plan.specs.declared.component.Component.{Component}

@@ -1,10 +1,10 @@
 -- A small configuration, and the plan that it stands for.
 use Rattle.std.specs.Prelude.{◌^◌, ◌-◌, false, [], ◌∷◌, codes}
 use Rattle.vx_plan.specs.declared.class.Class.TheVariants.{Source, Sink}
-use Rattle.vx_json.specs.declared.codec.Codec.TheVariants as codec
+use Rattle.vx_codec.specs.declared.codec.Codec.TheVariants as codec
 use Rattle.vx_plan.specs.declared.component.Component.{Component}
 use Rattle.vx_plan.specs.declared.console_target.ConsoleTarget.TheVariants.{Stdout}
-use Rattle.vx_json.specs.declared.decoding.Decoding.TheVariants as decoding
+use Rattle.vx_codec.specs.declared.decoding.Decoding.TheVariants as decoding
 use Rattle.vx_plan.specs.declared.global.Global.{Global}
 use Rattle.vx_plan.specs.declared.plan.Plan.{Plan}
 use Rattle.vx_plan.specs.declared.settings.Settings.TheVariants.{Stdin, Console}

@@ -1,9 +1,9 @@
 -- What settings say, one accessor for each option, so that a new type of component adds one line to each.
 use Rattle.std.specs.Prelude.{ℕ, ◌*◌, ◌^◌, ◌-◌, Bool, true, false, Option, Some, None, List, [], ◌∷◌, ◌++◌, map, codes}
 use Rattle.vx_value.specs.Texts.{ByteString}
-use Rattle.vx_json.specs.declared.codec.Codec.{Codec}
-use Rattle.vx_json.specs.declared.decoding.Decoding.{Decoding}
-use Rattle.vx_json.specs.declared.decoding.Decoding.TheVariants.{Bytes}
+use Rattle.vx_codec.specs.declared.codec.Codec.{Codec}
+use Rattle.vx_codec.specs.declared.decoding.Decoding.{Decoding}
+use Rattle.vx_codec.specs.declared.decoding.Decoding.TheVariants.{Bytes}
 use Rattle.vx_demo.specs.declared.demo_settings.DemoSettings.{DemoSettings}
 use Rattle.vx_plan.specs.declared.route.Route.{Route as Way}
 use Rattle.vx_plan.specs.declared.settings.Settings.{Settings}

@@ -11,7 +11,7 @@ use crate::sink_settings::SinkSettings;
 use crate::stage::{Stage, StageList};
 use crate::when_full::WhenFull;
 use std::alloc::Global as Allocator;
-use vx_json::{Codec, Decoding};
+use vx_codec::{Codec, Decoding};
 use vx_value::{Text, TextList, WantOfMemory};
 
 /// The plan of standard input to standard output, as text: a source named `in`, and a sink named `out` that reads it.

@@ -34,7 +34,7 @@ pub use route::{Route, RouteList};
 pub use settings::Settings;
 pub use sink_settings::SinkSettings;
 pub use stage::{Stage, StageList};
+pub use vx_codec::{Codec, Decoding};
 pub use vx_condition::{DedupeFields, How, PathList, Strategy, StrategyList};
 pub use vx_demo::DemoSettings;
-pub use vx_json::{Codec, Decoding};
 pub use when_full::WhenFull;

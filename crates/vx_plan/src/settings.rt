@@ -15,10 +15,10 @@ use crate::read_from::ReadFrom;
 use crate::route::RouteList;
 use crate::sink_settings::SinkSettings;
 use std::alloc::Global;
+use vx_codec::{Codec, Decoding};
 use vx_condition::{DedupeFields, PathList, StrategyList};
 use vx_demo::DemoSettings;
 use vx_ends::Form;
-use vx_json::{Codec, Decoding};
 use vx_value::{Text, WantOfMemory};
 
 /// The options of a component, one variant for each type.

@@ -10,8 +10,8 @@ use Rattle.vx_subst.specs.Replaced.{replaced, first_lacking, becomes, lacks, tex
 use Rattle.vx_condition.specs.declared.how.How.TheVariants.{Sum, ConcatNewline}
 use Rattle.vx_plan.specs.Components.{acknowledges, stages}
 use Rattle.vx_plan.specs.First.{first_configuration, first_plan}
-use Rattle.vx_json.specs.declared.codec.Codec.TheVariants as codec
-use Rattle.vx_json.specs.declared.decoding.Decoding.TheVariants as decoding
+use Rattle.vx_codec.specs.declared.codec.Codec.TheVariants as codec
+use Rattle.vx_codec.specs.declared.decoding.Decoding.TheVariants as decoding
 use Rattle.vx_plan.specs.declared.component.Component.{Component}
 use Rattle.vx_plan.specs.declared.compression.Compression.TheVariants as compression
 use Rattle.vx_plan.specs.declared.read_from.ReadFrom.TheVariants.{Beginning}

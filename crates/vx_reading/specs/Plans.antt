@@ -6,10 +6,10 @@ use Rattle.vx_condition.specs.declared.dedupe_fields.DedupeFields.{DedupeFields}
 use Rattle.vx_condition.specs.declared.dedupe_fields.DedupeFields.TheVariants.{Match, Ignore}
 use Rattle.vx_condition.specs.declared.strategy.Strategy.{Strategy}
 use Rattle.toml.specs.Data.{Data, Items, get, as_str, as_array, as_bool}
-use Rattle.vx_json.specs.declared.codec.Codec.{Codec}
-use Rattle.vx_json.specs.declared.codec.Codec.TheVariants as codec
-use Rattle.vx_json.specs.declared.decoding.Decoding.{Decoding}
-use Rattle.vx_json.specs.declared.decoding.Decoding.TheVariants as decoding
+use Rattle.vx_codec.specs.declared.codec.Codec.{Codec}
+use Rattle.vx_codec.specs.declared.codec.Codec.TheVariants as codec
+use Rattle.vx_codec.specs.declared.decoding.Decoding.{Decoding}
+use Rattle.vx_codec.specs.declared.decoding.Decoding.TheVariants as decoding
 use Rattle.vx_demo.specs.declared.demo_settings.DemoSettings.{DemoSettings}
 use Rattle.vx_plan.specs.declared.component.Component.{Component}
 use Rattle.vx_plan.specs.declared.compression.Compression.TheVariants as compression

@@ -4,7 +4,7 @@ use Rattle.std.specs.Prelude.{◌==◌, not, nat_le, nat_lt, slice_get, if◌the
 use Rattle.std.proofs.lemmas.Bool.{or_parts}
 use Rattle.std.proofs.lemmas.Bool.Decides.{nat_tests}
 use Rattle.vx_ends.specs.Observation.{Observation}
-use Rattle.vx_json.specs.Waits.{wait_after}
+use Rattle.vx_sinkcore.specs.Waits.{wait_after}
 use Rattle.vx_value.specs.Texts.{is_empty}
 use Rattle.vx_plan.specs.declared.component.Component.{Component}
 use Rattle.vx_plan.specs.declared.settings.Settings.{Settings}

@@ -1,6 +1,6 @@
 -- What an instance has to do, as the record has it.
 use Rattle.std.specs.Prelude.{◌≡◌, ◌⊎◌, ℕ, ◌+◌, ◌*◌, ◌==◌, ◌≤◌, Bool, true, false, ◌||◌, Option, Some, None, if◌then◌else◌, nat_le, nat_lt}
-use Rattle.vx_json.specs.Waits.{wait_after}
+use Rattle.vx_sinkcore.specs.Waits.{wait_after}
 use Rattle.vx_record.specs.Records.{Record, capped}
 use Rattle.vx_record.specs.Abandoning.{abandoned}
 use Rattle.vx_record.specs.Confirms.{is_confirm_due}

@@ -4,8 +4,8 @@ use Rattle.std.specs.Str.Lossy.{utf8_lossy}
 use Rattle.vx_value.specs.Texts.{ByteString}
 use Rattle.vx_value.specs.Datum.{NamedDatum, Words}
 use Rattle.vx_value.specs.declared.event.Event.{Event}
-use Rattle.vx_json.specs.declared.decoding.Decoding.{Decoding}
-use Rattle.vx_json.specs.declared.decoding.Decoding.TheVariants as decoding
+use Rattle.vx_codec.specs.declared.decoding.Decoding.{Decoding}
+use Rattle.vx_codec.specs.declared.decoding.Decoding.TheVariants as decoding
 use Rattle.vx_json.specs.LineEvents.{IsLineEvent}
 use Rattle.vx_plan.specs.declared.settings.Settings.{Settings}
 use Rattle.vx_plan.specs.Options.{type_name, file_read}

@@ -1,6 +1,6 @@
 -- How waits grow: as the numbers of Fibonacci, times the first wait.
 use Rattle.std.proofs.Common.{◌≡◌, ℕ, zero, suc, ◌+◌, ◌-◌, ◌*◌, ◌≤◌, ap, ◌∙◌, arith}
-use Rattle.vx_json.specs.Waits.{fibonacci_from, fibonacci}
+use Rattle.vx_sinkcore.specs.Waits.{fibonacci_from, fibonacci}
 
 -- two numbers that are so many times as high lead to one that is so many times as high
 pub fibonacci_from-times : (c a b low high k : ℕ) → low ≡ c * a → high ≡ c * b → fibonacci_from low high k ≡ c * fibonacci_from a b k

@@ -1,5 +1,5 @@
 ghost use Rattle.std.specs.Prelude.{◌≡◌, ◌*◌, ◌<◌, ◌↔◌, IsNone, IfSome};
-ghost use Rattle.vx_json.specs.Waits.{wait_after};
+ghost use Rattle.vx_sinkcore.specs.Waits.{wait_after};
 
 /// How long a sink waits between its attempts at a batch, and how often it tries again.
 ///

@@ -5,7 +5,7 @@ use Rattle.vx_value.specs.Texts.{ByteString}
 use Rattle.vx_frame.specs.Frames.{Frame, cut, capped, some_byte, lines_from, fits, frames, discarded, open_line, open_from}
 use Rattle.vx_frame.specs.Framings.{line_of}
 use Rattle.vx_value.specs.declared.event.Event.{Event}
-use Rattle.vx_json.specs.declared.decoding.Decoding.{Decoding}
+use Rattle.vx_codec.specs.declared.decoding.Decoding.{Decoding}
 use Rattle.vx_plan.specs.declared.component.Component.{Component}
 use Rattle.vx_plan.specs.declared.settings.Settings.{Settings}
 use Rattle.vx_plan.specs.Components.{longest_line}

@@ -1,7 +1,7 @@
 -- A framer's lines are those that the record counts.
 use Rattle.std.proofs.Common.{◌≡◌, ℕ, false, Option, Some, None, List, [], ◌∷◌, ◌++◌, length, drop, sym, refl, ap, ◌∙◌, arith}
 use Rattle.vx_frame.specs.Frames.{Frame, frames}
-use Rattle.vx_json.specs.declared.decoding.Decoding.{Decoding}
+use Rattle.vx_codec.specs.declared.decoding.Decoding.{Decoding}
 use Rattle.vx_plan.specs.declared.component.Component.{Component}
 use Rattle.vx_plan.specs.Options.{decoding}
 use Rattle.vx_record.specs.declared.taken.Taken.{Taken}

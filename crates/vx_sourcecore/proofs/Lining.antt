@@ -12,7 +12,7 @@ use Rattle.vx_frame.specs.Pieces.{kept, lines_of}
 use Rattle.vx_frame.specs.Framings.{unfinished, lines_behind, line_of}
 use Rattle.vx_frame.specs.declared.unfinished.Unfinished.{Unfinished}
 use Rattle.vx_frame.specs.declared.line.Line.{Line}
-use Rattle.vx_json.specs.declared.decoding.Decoding.{Decoding}
+use Rattle.vx_codec.specs.declared.decoding.Decoding.{Decoding}
 use Rattle.vx_json.specs.LineEvents.{line_fields, event_fields}
 use Rattle.vx_record.specs.Reads.{event_with}
 use Rattle.vx_sourcecore.specs.declared.new_lines.NewLines.{NewLines}

@@ -1,7 +1,7 @@
 -- When a source stays abreast of a record.
 use Rattle.std.specs.Prelude.{◌≡◌, ℕ, ◌<◌, true, Some, None, is_some, [], ◌∷◌, length}
 use Rattle.std.specs.List.{list_all}
-use Rattle.vx_json.specs.declared.decoding.Decoding.{Decoding}
+use Rattle.vx_codec.specs.declared.decoding.Decoding.{Decoding}
 use Rattle.vx_demo.specs.declared.demo_settings.DemoSettings.{DemoSettings}
 use Rattle.vx_plan.specs.declared.component.Component.{Component}
 use Rattle.vx_plan.specs.declared.settings.Settings.{Settings}

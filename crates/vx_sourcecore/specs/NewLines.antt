@@ -4,7 +4,7 @@ use Rattle.vx_value.specs.Texts.{ByteString, is_empty}
 use Rattle.vx_json.specs.LineEvents.{line_fields}
 use Rattle.vx_sourcecore.specs.declared.new_lines.NewLines.{NewLines}
 use Rattle.vx_frame.specs.Frames.{Frame, frames, discarded}
-use Rattle.vx_json.specs.declared.decoding.Decoding.{Decoding}
+use Rattle.vx_codec.specs.declared.decoding.Decoding.{Decoding}
 use Rattle.vx_plan.specs.declared.component.Component.{Component}
 use Rattle.vx_plan.specs.Options.{decoding}
 use Rattle.vx_record.specs.declared.taken.Taken.{Taken}

@@ -5,7 +5,7 @@ use Rattle.vx_value.specs.declared.event.Event.{Event}
 use Rattle.vx_frame.specs.Frames.{Frame, frames, discarded}
 use Rattle.vx_frame.specs.Framings.{Framing, HasTaken, unfinished, lines_behind, overlong_behind, line_of}
 use Rattle.vx_frame.specs.declared.line.Line.{Line}
-use Rattle.vx_json.specs.declared.decoding.Decoding.{Decoding}
+use Rattle.vx_codec.specs.declared.decoding.Decoding.{Decoding}
 use Rattle.vx_json.specs.LineEvents.{line_fields}
 use Rattle.vx_record.specs.Records.{capped}
 use Rattle.vx_record.specs.Reads.{event_with}

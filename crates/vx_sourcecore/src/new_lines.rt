@@ -1,6 +1,6 @@
 ghost use Rattle.std.specs.Prelude.{◌≡◌, ℕ, List, [], ◌∷◌, ◌++◌};
 ghost use Rattle.vx_frame.specs.Frames.{Frame};
-ghost use Rattle.vx_json.specs.declared.decoding.Decoding.{Decoding};
+ghost use Rattle.vx_codec.specs.declared.decoding.Decoding.{Decoding};
 ghost use Rattle.vx_record.specs.Records.{capped};
 ghost use Rattle.vx_sourcecore.specs.NewLines.{AreObserved, IsObservedOf};
 

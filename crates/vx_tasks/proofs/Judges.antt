@@ -4,8 +4,8 @@ use Rattle.std.specs.Prelude.{◌&&◌, IsSomeAnd, find, if◌then◌else◌}
 use Rattle.std.specs.List.{list_all}
 use Rattle.std.proofs.lemmas.Bool.{and_parts, and_from}
 use Rattle.vx_value.specs.Texts.{ByteString, same_text}
-use Rattle.vx_json.specs.declared.codec.Codec.{Codec}
-use Rattle.vx_json.specs.declared.decoding.Decoding.{Decoding}
+use Rattle.vx_codec.specs.declared.codec.Codec.{Codec}
+use Rattle.vx_codec.specs.declared.decoding.Decoding.{Decoding}
 use Rattle.vx_condition.specs.Steps.{Test}
 use Rattle.vx_condition.specs.Picking.{filter_passes, route_ports, sample_passes, dedupe_passes}
 use Rattle.vx_plan.specs.declared.class.Class.{Class}

@@ -3,7 +3,7 @@ use Rattle.std.proofs.Common.{◌≡◌, ℕ, zero, suc, ◌+◌, ◌<◌, List,
 use Rattle.std.specs.Prelude.{◌≢◌, slice_get, map, IsSomeAnd}
 use Rattle.std.proofs.lemmas.List.{append_assoc, append-nil}
 use Rattle.vx_value.specs.declared.event.Event.{Event}
-use Rattle.vx_json.specs.declared.codec.Codec.{Codec}
+use Rattle.vx_codec.specs.declared.codec.Codec.{Codec}
 use Rattle.vx_ledger.specs.Copies.{Copy}
 use Rattle.vx_ledger.specs.declared.parcel.Parcel.{Parcel}
 use Rattle.vx_plan.specs.declared.component.Component.{Component}

@@ -6,7 +6,7 @@ use Rattle.vx_condition.specs.Steps.{Test}
 use Rattle.vx_plan.specs.declared.settings.Settings.{Settings}
 use Rattle.vx_plan.specs.Options.{conditions_of}
 use Rattle.vx_ends.specs.Observation.{Observation}
-use Rattle.vx_json.specs.declared.codec.Codec.{Codec}
+use Rattle.vx_codec.specs.declared.codec.Codec.{Codec}
 use Rattle.vx_ledger.specs.declared.parcel.Parcel.{Parcel}
 use Rattle.vx_record.specs.Records.{Record}
 use Rattle.vx_record.specs.Reads.{all_ended, ended_streams}

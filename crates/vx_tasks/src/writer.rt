@@ -16,7 +16,7 @@ pub struct Writer {
 }
 
 impl Model for Writer {
-    ghost use Rattle.vx_json.specs.declared.codec.Codec.{Codec};
+    ghost use Rattle.vx_codec.specs.declared.codec.Codec.{Codec};
 
     ghost Value = { Codec };
 

@@ -1,7 +1,7 @@
 use Rattle.std.proofs.Common.{◌≡◌, ◌∙◌, ◌<◌, ℕ, ◌+◌, ◌*◌, false, sym, ap, arith, rules}
 use Rattle.std.specs.Prelude.{◌==◌}
 use Rattle.std.proofs.lemmas.Bool.Decides.{nat_tests}
-use Rattle.vx_json.specs.Waits.{wait_after}
+use Rattle.vx_sinkcore.specs.Waits.{wait_after}
 use Rattle.vx_record.specs.Records.{capped}
 use Rattle.vx_sinkcore.specs.declared.schedule.Schedule.{Schedule}
 use Rattle.vx_ready.specs.Jobs.{retry_moment}

@@ -6,7 +6,7 @@ use Rattle.vx_value.specs.declared.event.Event.{Event}
 use Rattle.vx_plan.specs.Options.{type_name, file_read}
 use Rattle.vx_json.specs.LineEvents.{line_fields}
 use Rattle.vx_json.proofs.Lines.{event-is, is-event}
-use Rattle.vx_json.specs.declared.decoding.Decoding.TheVariants as decoding
+use Rattle.vx_codec.specs.declared.decoding.Decoding.TheVariants as decoding
 use Rattle.vx_record.specs.Laws.{file_fields}
 use Rattle.vx_record.specs.Reads.{event_with}
 use Rattle.vx_record.proofs.laws.line_events.Goals as goal
