@@ -1,13 +1,13 @@
 -- A field that is put among others whose names rise.
-use Rattle.std.proofs.Common.{◌≡◌, ℕ, zero, suc, ◌+◌, true, Some, List, [], ◌∷◌, ◌++◌, length, refl, sym, ◌∙◌, ap, arith}
+use Rattle.std.proofs.Common.{◌≡◌, ℕ, zero, suc, ◌+◌, true, Some, None, List, [], ◌∷◌, ◌++◌, length, refl, sym, ◌∙◌, ap, arith}
 use Rattle.std.proofs.lemmas.List.{append-nil}
 use Rattle.std.specs.List.{slice_get}
 use Rattle.std.specs.Ordering.{is_lt}
 use Rattle.vx_value.specs.Texts.{ByteString, text_lt}
 use Rattle.vx_value.specs.Datum.{Datum, NamedDatum}
-use Rattle.vx_value.specs.Events.{with_field, names_rise, last_below}
+use Rattle.vx_value.specs.Events.{with_field, value_under, names_rise, last_below}
 use Rattle.vx_value.specs.Orders.{text_cmp}
-use Rattle.vx_value.proofs.Order.{text_lt-trans, answer_less}
+use Rattle.vx_value.proofs.Order.{text_lt-trans, less_not_same, answer_less}
 use Rattle.vx_json.specs.Puts.{last_order}
 use Rattle.vx_json.proofs.Choices.{both_true, and_true}
 
@@ -67,3 +67,9 @@ rise-front (x ∷ y ∷ xs) ys r = let k = both_true (text_lt x.name y.name) (na
 -- no field has the name
 pub with-last : (xs : List NamedDatum) (name : ByteString) (v : Datum) → names_rise xs ≡ true → last_below xs name ≡ true → with_field xs name v ≡ xs ++ field name v ∷ []
 with-last xs name v r h = ap (λ q. with_field q name v) (sym (append-nil xs)) ∙ with-below xs [] name v r h
+
+-- nothing stands under a name behind all others
+pub none-last : (xs : List NamedDatum) (name : ByteString) → names_rise xs ≡ true → last_below xs name ≡ true → value_under xs name ≡ None
+none-last [] name r h = refl
+none-last (f ∷ fs) name r h =
+    rw (less_not_same f.name name (first-below f fs name r h)) (none-last fs name (rise-rest f fs r) (last-rest f fs name h))

@@ -1,22 +1,26 @@
-ghost use Rattle.std.specs.Prelude.{◌≡◌, [], ◌∷◌, codes, OnOk, IfOk};
+ghost use Rattle.std.specs.Prelude.{◌≡◌, [], ◌∷◌, codes, OnOk, IfOk, IsTrue};
 ghost use Rattle.std.specs.Option.{option_copied};
 ghost use Rattle.vx_value.specs.Datum.{Words};
+ghost use Rattle.vx_value.specs.Events.{names_rise, last_below};
 ghost use Rattle.vx_json.specs.Objects.{object_of};
 ghost use Rattle.vx_json.specs.LineEvents.{with_text, from_source, content_of, line_fields, event_fields};
 
 use crate::json_fault::JsonFault;
-use crate::put_field::put_field;
+use crate::put_field::{last_order, put_field};
 use crate::reader::read;
 use std::alloc::Global;
 use vx_codec::Decoding;
-use vx_value::{Bytes, Event, FieldList, Text, Value, WantOfMemory};
+use vx_value::{Bytes, Event, Field, FieldList, Text, Value, WantOfMemory};
+
+/// So many fields the event of a line as text has, where its source reads no file.
+const FEW: usize = 2;
 
 /// The event of a line as text: its message.
 fn message(alloc: Global, text: Text) -> Result<Event, WantOfMemory>
     ensures { IfOk result
         (λ event. event.fields ≡ record { name = codes "message"; value = Words text } ∷ []) }
 {
-    let mut fields = FieldList::new(alloc);
+    let mut fields = FieldList::with_room(alloc, FEW)?;
     let name = Text::copy_of(alloc, "message")?;
     put_field(&mut fields, name, Value::Words(text))?;
     Ok(Event { fields })
@@ -50,12 +54,37 @@ fn content(alloc: Global, decoding: Decoding, line: Bytes) -> Result<Option<Even
 fn add_text(alloc: Global, event: &mut Event, name: &str, text: &Text) -> Result<(), WantOfMemory>
     ensures { OnOk result (event.new.fields ≡ with_text event.old.fields name.now text.now) }
 {
+    if last_order(&event.fields, name).is_lt() {
+        return append_text(alloc, &mut event.fields, name, text);
+    }
     if event.fields.find(name).is_some() {
         return Ok(());
     }
     let name = Text::copy_of(alloc, name)?;
     let text = text.copy(alloc)?;
     put_field(&mut event.fields, name, Value::Words(text))
+}
+
+/// Puts a text under a name that comes behind all others, so that nothing stands there.
+fn append_text(
+    alloc: Global,
+    fields: &mut FieldList,
+    name: &str,
+    text: &Text,
+) -> Result<(), WantOfMemory>
+    requires rising { IsTrue (names_rise fields.old) }
+    requires behind { IsTrue (last_below fields.old name.now) }
+    ensures { OnOk result (fields.new ≡ with_text fields.old name.now text.now) }
+{
+    let name = Text::copy_of(alloc, name)?;
+    let text = text.copy(alloc)?;
+    match fields.push(Field {
+        name,
+        value: Value::Words(text),
+    }) {
+        Ok(()) => Ok(()),
+        Err(_) => Err(WantOfMemory),
+    }
 }
 
 /// Puts the type of the source into an event, and the path of its file if it reads one.

@@ -58,6 +58,16 @@ impl FieldList {
         }
     }
 
+    /// No fields, with room for so many and no more.
+    pub fn with_room(alloc: Global, room: usize) -> Result<Self, WantOfMemory>
+        ensures { IfOk result (λ fields. fields ≡ []) }
+    {
+        match Vec::with_capacity(alloc, room) {
+            Ok(fields) => Ok(FieldList { fields }),
+            Err(_) => Err(WantOfMemory),
+        }
+    }
+
     /// How many fields there are.
     pub fn len(&self) -> usize
         ensures len { result ≡ length self.now }

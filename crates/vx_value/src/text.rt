@@ -120,16 +120,6 @@ impl Text {
         }
     }
 
-    /// The string of the text. It takes memory where the text lies in the value itself.
-    pub fn into_string(self, alloc: Global) -> Result<String, WantOfMemory>
-        ensures { IfOk result (λ text. string_bytes text ≡ self) }
-    {
-        match self.kept {
-            Kept::Short(text) => Ok(String::from_str(alloc, text.as_str())?),
-            Kept::Long(text) => Ok(text),
-        }
-    }
-
     /// The text.
     pub fn as_str(&self) -> &str
         ensures { result.now ≡ self.now }
