@@ -1,4 +1,4 @@
-ghost use Rattle.std.specs.Prelude.{◌≡◌, [], IfOk};
+ghost use Rattle.std.specs.Prelude.{◌≡◌, [], length, ◌<◌, IfOk, IsOk};
 
 use std::alloc::Global;
 use vx_value::{Bytes, ItemList, WantOfMemory};
@@ -20,9 +20,11 @@ pub struct Line {
 /// A list of lines.
 pub type LineList = ItemList<Line>;
 
-/// No lines, with room for those that bytes of a stream are reckoned to end, so that the list seldom grows.
+/// No lines, with room for those that bytes of a stream are reckoned to end, so that the list seldom grows. For fewer than 64 bytes it takes
+/// no memory, and so it doesn't want any.
 pub fn with_room_for(alloc: Global, bytes: &[u8]) -> Result<LineList, WantOfMemory>
-    ensures { IfOk result (λ lines. lines ≡ []) }
+    ensures empty { IfOk result (λ lines. lines ≡ []) }
+    ensures ok { length bytes.now < 64 → IsOk result }
 {
     match Vec::with_capacity(alloc, bytes.len() / BYTES_A_LINE) {
         Ok(lines) => Ok(LineList::from_vec(lines)),
