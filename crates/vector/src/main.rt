@@ -6,8 +6,10 @@ mod words;
 
 use std::process::ExitCode;
 use vx_ends_os::{HeldStreams, OsClock, OsPrinter, OsWorld};
+use vx_keeping::{HostList, HostTransform, Hosted, Numbering};
+use vx_value::Text;
 
-/// The status where not even the words or the environment find memory.
+/// The status where not even the words, the environment or the transforms that are handed in find memory.
 const WANT_OF_MEMORY: u8 = 71;
 
 /// Runs what the words ask for, and ends with the status of that run.
@@ -18,6 +20,16 @@ fn main(rt: HostRuntime) -> ExitCode {
         return ExitCode::from(WANT_OF_MEMORY);
     };
     let Ok(environment) = environment::read(&rt, alloc) else {
+        return ExitCode::from(WANT_OF_MEMORY);
+    };
+    let Ok(name) = Text::copy_of(alloc, "numbering") else {
+        return ExitCode::from(WANT_OF_MEMORY);
+    };
+    let Ok(numbering) = Box::new(alloc, Hosted::new(Numbering::new())) else {
+        return ExitCode::from(WANT_OF_MEMORY);
+    };
+    let mut hosts = HostList::new(alloc);
+    let Ok(()) = hosts.push(HostTransform::new(name, numbering)) else {
         return ExitCode::from(WANT_OF_MEMORY);
     };
     let world = OsWorld::new(rt);
@@ -31,6 +43,7 @@ fn main(rt: HostRuntime) -> ExitCode {
         &environment,
         world,
         &clock,
+        hosts,
         &mut out,
         &mut err,
     );

@@ -46,3 +46,22 @@ taken_live old new before after given same gives live batch place =
 pub live_still : (old new : Kept) (ledger : Ledger) → SameCopies (copies_kept old) (copies_kept new) → AreLive ledger (copies_kept old) → AreLive ledger (copies_kept new)
 live_still old new ledger same live batch place =
     let a = same_count batch place (copies_kept old) (copies_kept new) same in let b = live batch place in omega (arith, a, b)
+
+-- the copies that a keeper gives away are live
+pub part_live : (old new : Kept) (ledger : Ledger) (part : List Copy) → SameCopies (copies_kept old) (part ++ copies_kept new) →
+    AreLive ledger (copies_kept old) → AreLive ledger part
+part_live old new ledger part same live batch place =
+    let a = same_count batch place (copies_kept old) (part ++ copies_kept new) same in
+    let b = copies_of-append batch place part (copies_kept new) in
+    let c = live batch place in
+    omega (arith, a, b, c)
+
+-- and where these are spent, the others are live still
+pub rest_live : (old new : Kept) (before after : Ledger) (part : List Copy) → SameCopies (copies_kept old) (part ++ copies_kept new) →
+    Exchanges before part after [] → AreLive before (copies_kept old) → AreLive after (copies_kept new)
+rest_live old new before after part same spent live batch place =
+    let a = same_count batch place (copies_kept old) (part ++ copies_kept new) same in
+    let b = copies_of-append batch place part (copies_kept new) in
+    let c = spent batch place in
+    let d = live batch place in
+    omega (arith, a, b, c, d)

@@ -1,6 +1,7 @@
 //! Keepers that are driven by hand.
 ghost use Rattle.std.specs.Prelude.{◌≡◌, []};
 ghost use Rattle.vx_ledger.specs.Ledger.{AreLive, Exchanges};
+ghost use Rattle.vx_transform.specs.Shelves.{copies_put_out};
 ghost use Rattle.vx_keeping.specs.Given.{SameCopies};
 ghost use Rattle.vx_keeping.specs.Kept.{copies_kept};
 
@@ -10,7 +11,7 @@ use std::alloc::Global;
 use std::process::Abort;
 use std::test::Fail;
 use vx_condition::parse;
-use vx_keeping::Keeper;
+use vx_keeping::{HostList, Hosts, Keeper};
 use vx_ledger::{Batches, Finalizers, Parcel, SharedEvent};
 use vx_reduce::ReduceSettings;
 use vx_status::Outcome;
@@ -30,8 +31,8 @@ fn settings(alloc: Global) -> Result<ReduceSettings, Fail> {
     })
 }
 
-// An event with an identity and a number.
-fn event(alloc: Global, id: i64, n: i64) -> Result<SharedEvent, Fail> {
+/// An event with an identity and a number.
+pub(crate) fn event(alloc: Global, id: i64, n: i64) -> Result<SharedEvent, Fail> {
     let event = event_of_wholes(alloc, &[(".id", id), (".n", n)])?;
     let shared = SharedEvent::new(alloc, event)?;
     Ok(shared)
@@ -45,8 +46,8 @@ fn last(alloc: Global, id: i64, n: i64) -> Result<SharedEvent, Fail> {
     Ok(shared)
 }
 
-// Has a keeper take an event of a batch of its own.
-fn take<R: Abort>(rt: &R, keeper: &mut Keeper, batches: &mut Batches, event: SharedEvent)
+/// Has a keeper take an event of a batch of its own.
+pub(crate) fn take<R: Abort>(rt: &R, keeper: &mut Keeper, batches: &mut Batches, event: SharedEvent)
     requires { AreLive batches.old (copies_kept keeper.old) }
     ensures { AreLive batches.new (copies_kept keeper.new) }
 {
@@ -58,26 +59,47 @@ fn take<R: Abort>(rt: &R, keeper: &mut Keeper, batches: &mut Batches, event: Sha
     assert!(rt; keeper.has_taken());
 }
 
-// What comes behind an answer.
+/// What comes behind an answer.
 #[derive(Clone, Copy)]
-enum Behind {
+pub(crate) enum Behind {
     Nothing,
     Tick,
     Flush,
 }
 
-// Has a keeper answer at a moment, and do what comes behind that. Whether it found memory.
-fn answer(alloc: Global, keeper: &mut Keeper, now: u64, behind: Behind) -> bool
+/// Has the keeper of an instance answer at a moment, and do what comes behind that. Whether it found memory.
+pub(crate) fn answer_by<H: Hosts>(
+    alloc: Global,
+    keeper: &mut Keeper,
+    hosts: &mut H,
+    i: u32,
+    now: u64,
+    behind: Behind,
+) -> bool
     ensures { SameCopies (copies_kept keeper.old) (copies_kept keeper.new) }
 {
-    if keeper.answer(alloc, now).is_err() {
+    if keeper.answer(alloc, hosts, i, now).is_err() {
         return false;
     }
     match behind {
         Behind::Nothing => true,
-        Behind::Tick => keeper.tick(alloc, now).is_ok(),
-        Behind::Flush => keeper.flush(alloc).is_ok(),
+        Behind::Tick => keeper.tick(alloc, hosts, i, now).is_ok(),
+        Behind::Flush => keeper.flush(alloc, hosts, i).is_ok(),
     }
+}
+
+// The same of a keeper that reduces.
+fn answer(alloc: Global, keeper: &mut Keeper, now: u64, behind: Behind) -> bool
+    ensures { SameCopies (copies_kept keeper.old) (copies_kept keeper.new) }
+{
+    let mut hosts = HostList::new(alloc);
+    answer_by(alloc, keeper, &mut hosts, 0, now, behind)
+}
+
+// The moment of the next check of a keeper that reduces.
+fn due(alloc: Global, keeper: &Keeper) -> Option<u64> {
+    let hosts = HostList::new(alloc);
+    keeper.due(&hosts, 0)
 }
 
 // Spends all copies of a list.
@@ -92,13 +114,13 @@ fn spend_all(batches: &mut Batches, copies: Finalizers)
     rest.end();
 }
 
-// Takes off the outputs, all on port 0, and spends their copies.
-fn put_out<R: Abort>(rt: &R, keeper: &mut Keeper, batches: &mut Batches)
-    requires { AreLive batches.old (copies_kept keeper.old) }
-    ensures { AreLive batches.new (copies_kept keeper.new) }
+/// Spends the copies of outputs, all on port 0.
+pub(crate) fn spend_outputs<R: Abort>(rt: &R, batches: &mut Batches, outputs: ItemList<Output>)
+    requires { AreLive batches.old (copies_put_out outputs) }
+    ensures { Exchanges batches.old (copies_put_out outputs) batches.new [] }
 {
-    let mut outputs = keeper.put_out().into_vec();
-    while let Some(output) = outputs.pop() {
+    let mut rest = outputs;
+    while let Some(output) = rest.pop() {
         let Output { ports, parcel } = output;
         assert_eq!(rt; ports, 1);
         let Parcel {
@@ -107,7 +129,16 @@ fn put_out<R: Abort>(rt: &R, keeper: &mut Keeper, batches: &mut Batches)
         } = parcel;
         spend_all(batches, finalizers);
     }
-    outputs.destroy_empty();
+    rest.end();
+}
+
+/// Takes off the outputs, all on port 0, and spends their copies.
+pub(crate) fn put_out<R: Abort>(rt: &R, keeper: &mut Keeper, batches: &mut Batches)
+    requires { AreLive batches.old (copies_kept keeper.old) }
+    ensures { AreLive batches.new (copies_kept keeper.new) }
+{
+    let outputs = keeper.put_out();
+    spend_outputs(rt, batches, outputs);
 }
 
 // Has a keeper answer, by which it puts out so many parcels, whose copies are spent.
@@ -145,8 +176,8 @@ fn give_up_all<R: Abort>(rt: &R, keeper: &mut Keeper, batches: &mut Batches)
     assert!(rt; !keeper.is_fit());
 }
 
-// Ends a keeper that holds nothing, and a ledger of which no copy is live.
-fn end_both<R: Abort>(rt: &R, keeper: Keeper, batches: Batches) {
+/// Ends a keeper that holds nothing, and a ledger of which no copy is live.
+pub(crate) fn end_both<R: Abort>(rt: &R, keeper: Keeper, batches: Batches) {
     assert!(rt; keeper.is_empty());
     assert!(rt; batches.is_settled());
     keeper.end();
@@ -159,9 +190,9 @@ fn a_kept_group_ends(rt: HostRuntime) -> Result<(), Fail> {
     let second = last(alloc, 1, 3)?;
     let mut batches = Batches::new(alloc)?;
     let settings = settings(alloc)?;
-    let mut keeper = Keeper::new(alloc, settings, 2)?;
+    let mut keeper = Keeper::reducing(alloc, settings, 2)?;
     assert!(&rt; keeper.is_fit() && keeper.is_empty() && !keeper.has_taken());
-    assert_eq!(&rt; keeper.due(), None);
+    assert_eq!(&rt; due(alloc, &keeper), None);
     take(&rt, &mut keeper, &mut batches, first);
     take(&rt, &mut keeper, &mut batches, second);
     assert!(&rt; !keeper.has_room() && !keeper.is_empty());
@@ -177,14 +208,14 @@ fn kept_groups_expire(rt: HostRuntime) -> Result<(), Fail> {
     let other = event(alloc, 3, 7)?;
     let mut batches = Batches::new(alloc)?;
     let settings = settings(alloc)?;
-    let mut keeper = Keeper::new(alloc, settings, 2)?;
+    let mut keeper = Keeper::reducing(alloc, settings, 2)?;
     take(&rt, &mut keeper, &mut batches, first);
     answers(&rt, alloc, &mut keeper, &mut batches, 3, Behind::Nothing, 0);
-    assert_eq!(&rt; keeper.due(), Some(8));
+    assert_eq!(&rt; due(alloc, &keeper), Some(8));
     answers(&rt, alloc, &mut keeper, &mut batches, 8, Behind::Tick, 0);
-    assert_eq!(&rt; keeper.due(), Some(13));
+    assert_eq!(&rt; due(alloc, &keeper), Some(13));
     answers(&rt, alloc, &mut keeper, &mut batches, 13, Behind::Tick, 1);
-    assert_eq!(&rt; keeper.due(), None);
+    assert_eq!(&rt; due(alloc, &keeper), None);
     take(&rt, &mut keeper, &mut batches, other);
     answers(
         &rt,
@@ -209,7 +240,7 @@ fn kept_copies_are_given_up(rt: HostRuntime) -> Result<(), Fail> {
     let third = event(alloc, 5, 1)?;
     let mut batches = Batches::new(alloc)?;
     let settings = settings(alloc)?;
-    let mut keeper = Keeper::new(alloc, settings, 3)?;
+    let mut keeper = Keeper::reducing(alloc, settings, 3)?;
     take(&rt, &mut keeper, &mut batches, first);
     answers(
         &rt,
@@ -224,7 +255,7 @@ fn kept_copies_are_given_up(rt: HostRuntime) -> Result<(), Fail> {
     take(&rt, &mut keeper, &mut batches, third);
     keeper.fail();
     assert!(&rt; !keeper.is_fit() && !keeper.is_empty());
-    assert!(&rt; keeper.answer(alloc, 31).is_err());
+    assert!(&rt; !answer(alloc, &mut keeper, 31, Behind::Nothing));
     give_up_all(&rt, &mut keeper, &mut batches);
     end_both(&rt, keeper, batches);
     Ok(())
@@ -244,8 +275,8 @@ fn events(alloc: Global) -> Result<Vec<SharedEvent>, Fail> {
     Ok(events)
 }
 
-// Has a keeper take an event of a batch of two copies, where it has room for it and memory is found.
-fn take_two(keeper: &mut Keeper, batches: &mut Batches, event: SharedEvent)
+/// Has a keeper take an event of a batch of two copies, where it has room for it and memory is found.
+pub(crate) fn take_two(keeper: &mut Keeper, batches: &mut Batches, event: SharedEvent)
     requires { AreLive batches.old (copies_kept keeper.old) }
     ensures { AreLive batches.new (copies_kept keeper.new) }
 {
@@ -293,7 +324,7 @@ fn a_keeper_runs_short(rt: HostRuntime) -> Result<(), Fail> {
     let mut events = events(alloc)?;
     let mut batches = Batches::new(alloc)?;
     let settings = settings(alloc)?;
-    let mut keeper = Keeper::new(alloc, settings, 4)?;
+    let mut keeper = Keeper::reducing(alloc, settings, 4)?;
     let fine = feed(&rt, alloc, &mut keeper, &mut batches, &mut events);
     assert_eq!(&rt; keeper.is_fit(), fine);
     give_up_all(&rt, &mut keeper, &mut batches);

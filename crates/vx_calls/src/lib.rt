@@ -18,6 +18,8 @@ mod graphs;
 #[cfg(test)]
 mod groups;
 #[cfg(test)]
+mod hosts;
+#[cfg(test)]
 mod json_events;
 #[cfg(test)]
 mod keepers;

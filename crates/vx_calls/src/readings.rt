@@ -1,10 +1,10 @@
-//! Configurations whose one transform merges events, as they are read.
+//! Configurations whose one transform merges events or is handed in, as they are read.
 
 use std::alloc::Global;
 use std::process::Abort;
 use std::test::Fail;
 use vx_condition::{How, Strategy};
-use vx_plan::Settings;
+use vx_plan::{Component, Settings};
 use vx_reading::{PlanFault, ReadPlan, read_plan};
 use vx_value::{Path, Text, VariableList};
 
@@ -280,5 +280,47 @@ fn a_bad_value_is_reported_at_its_option(rt: HostRuntime) -> Result<(), Fail> {
     for (options, path) in BAD {
         is_bad(&rt, rt.alloc(), *options, *path)?;
     }
+    Ok(())
+}
+
+/// A transform that is handed in, between a source and a sink.
+const HANDED_IN: &str = "[sources.in]
+type = \"stdin\"
+
+[transforms.mine]
+type = \"host\"
+inputs = [\"in\"]
+
+[sinks.out]
+type = \"console\"
+inputs = [\"mine\"]
+encoding.codec = \"text\"
+";
+
+/// Checks that a component is a transform that is handed in, which reads one other.
+fn is_handed_in(rt: &impl Abort, component: &Component, name: &str, input: &str) {
+    match component.settings {
+        Settings::Host => {}
+        _ => panic!(rt; "no host"),
+    }
+    assert_eq!(rt; component.name.as_str(), name);
+    assert_eq!(rt; component.inputs.len(), 1);
+    match component.inputs.get(0) {
+        Some(read) => assert_eq!(rt; read.as_str(), input),
+        None => panic!(rt; "no input"),
+    }
+}
+
+#[test]
+fn a_transform_may_be_handed_in(rt: HostRuntime) -> Result<(), Fail> {
+    let alloc = rt.alloc();
+    let Ok(read) = read_plan(alloc, HANDED_IN.as_bytes(), &VariableList::new(alloc)) else {
+        panic!(&rt; "refused");
+    };
+    match read.plan.components.get(1) {
+        Some(component) => is_handed_in(&rt, component, "mine", "in"),
+        None => panic!(&rt; "no transform"),
+    }
+    has_conditions(&rt, &read, 0);
     Ok(())
 }

@@ -15,7 +15,7 @@ use Rattle.vx_cli.specs.Lines.{IsLine, IsPlainByte}
 use Rattle.vx_cli.specs.Shown.{shown}
 use Rattle.vx_cli.specs.Texts.{failed_after, graph_text, listed, of_component, plan_text, reason_of, text_of}
 use Rattle.vx_cli.specs.declared.fault.Fault.{Fault}
-use Rattle.vx_cli.specs.declared.fault.Fault.TheVariants.{Usage, ConfigRead, ConfigRefused, Numbers, SourceFailed, ConfirmFailed, PrintFailed, WantOfMemory}
+use Rattle.vx_cli.specs.declared.fault.Fault.TheVariants.{Usage, ConfigRead, ConfigRefused, UnknownHost, Numbers, SourceFailed, ConfirmFailed, PrintFailed, WantOfMemory}
 use Rattle.vx_cli.proofs.Printed.{plain_bytes, plain_digits, shown_unhidden}
 
 -- a text without a byte of a control
@@ -91,6 +91,7 @@ reason : (fault : Fault) → IsPlainText (reason_of fault)
 reason Usage = nothing
 reason (ConfigRead path) = led (codes "cannot read ") refl (name_of path)
 reason (ConfigRefused fault) = led (codes "configuration refused: ") refl (plan_reason fault)
+reason (UnknownHost name) = led (codes "no host transform ") refl (name_of name)
 reason (Numbers next wanted) =
     led (codes "copy numbers are used up: next ") refl (joined (number next) (led (codes ", wanted ") refl (number wanted)))
 reason (SourceFailed name at) = led (codes "source ") refl (joined (name_of name) (failed at))

@@ -8,7 +8,7 @@ use Rattle.vx_graph.specs.declared.graph_fault.GraphFault.TheVariants as graph
 use Rattle.vx_reading.specs.declared.plan_fault.PlanFault.{PlanFault}
 use Rattle.vx_reading.specs.declared.plan_fault.PlanFault.TheVariants as plan
 use Rattle.vx_cli.specs.declared.fault.Fault.{Fault}
-use Rattle.vx_cli.specs.declared.fault.Fault.TheVariants.{Usage, ConfigRead, ConfigRefused, Numbers, SourceFailed, ConfirmFailed, PrintFailed, WantOfMemory}
+use Rattle.vx_cli.specs.declared.fault.Fault.TheVariants.{Usage, ConfigRead, ConfigRefused, UnknownHost, Numbers, SourceFailed, ConfirmFailed, PrintFailed, WantOfMemory}
 
 -- where a source failed
 abbrev pub failed_after : ℕ → ByteString
@@ -51,6 +51,7 @@ abbrev pub reason_of : Fault → ByteString
 reason_of Usage = []
 reason_of (ConfigRead path) = codes "cannot read " ++ shown path
 reason_of (ConfigRefused fault) = codes "configuration refused: " ++ plan_text fault
+reason_of (UnknownHost name) = codes "no host transform " ++ shown name
 reason_of (Numbers next wanted) =
     codes "copy numbers are used up: next " ++ (decimal next ++ (codes ", wanted " ++ decimal wanted))
 reason_of (SourceFailed name at) = codes "source " ++ (shown name ++ failed_after at)

@@ -14,6 +14,9 @@ pub enum Fault {
     ConfigRead { path: Text },
     /// The configuration was read, and isn't accepted.
     ConfigRefused(PlanFault),
+    /// That name of a `host` component has no unused transform that the program hands in. Of several such names it is the least in byte
+    /// order.
+    UnknownHost(Text),
     /// The numbers of copies are used up: `next` is the next one, and `wanted` more were asked for.
     Numbers { next: u64, wanted: u64 },
     /// The port of that source failed after it had taken `at` bytes.
@@ -42,6 +45,7 @@ impl Fault {
             Fault::ConfigRefused(PlanFault::WantOfMemory) => 71,
             Fault::ConfigRefused(PlanFault::Graph(GraphFault::WantOfMemory)) => 71,
             Fault::ConfigRefused(_) => 78,
+            Fault::UnknownHost(_) => 78,
         }
     }
 }

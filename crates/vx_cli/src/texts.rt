@@ -55,6 +55,7 @@ fn wording_of(fault: &Fault) -> Wording
         Fault::ConfigRefused(PlanFault::WantOfMemory) => Wording::Nothing,
         Fault::ConfigRefused(PlanFault::Graph(GraphFault::WantOfMemory)) => Wording::Nothing,
         Fault::ConfigRefused(_)
+        | Fault::UnknownHost(_)
         | Fault::ConfigRead { .. }
         | Fault::Numbers { .. }
         | Fault::SourceFailed { .. }
@@ -74,6 +75,10 @@ fn reason(alloc: Global, fault: &Fault) -> Result<String, AllocError>
         Fault::ConfigRefused(fault) => {
             let text = plan_text(alloc, fault)?;
             format!(in alloc; "configuration refused: {text}")
+        }
+        Fault::UnknownHost(name) => {
+            let name = shown(alloc, name)?;
+            format!(in alloc; "no host transform {name}")
         }
         Fault::Numbers { next, wanted } => {
             format!(in alloc; "copy numbers are used up: next {next}, wanted {wanted}")

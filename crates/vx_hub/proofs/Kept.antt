@@ -54,7 +54,7 @@ pub kept_if : (h : Record) (i : ℕ) (o : Option Component) (k : Option Kept) �
     IfSome k (λ kept. IsKept kept h i)
 kept_if h i o None runs says given none unticked = tt
 kept_if h i None (Some k) runs says given none unticked = cc
-kept_if h i (Some c) (Some k) runs says given none unticked = record { keeps = says.keeps h i runs given none; unticked = unticked }
+kept_if h i (Some c) (Some k) runs says given none unticked = record { keeps = says.keeps h i runs given none; cleared = λ fit. says.cleared; unticked = unticked }
 
 -- NO COPIES
 pub last_bare : (slots : List (Option Kept)) (slot : Option Kept) → AreBare (slots ++ slot ∷ []) → AreBare slots × IfSome slot (λ k. copies_kept k ≡ [])

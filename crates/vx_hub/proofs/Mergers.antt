@@ -5,7 +5,7 @@ use Rattle.std.proofs.lemmas.Bool.{eq-eqb}
 use Rattle.vx_ends.specs.Observation.{Observation}
 use Rattle.vx_plan.specs.declared.component.Component.{Component}
 use Rattle.vx_record.specs.declared.entry.Entry.{Entry}
-use Rattle.vx_record.specs.declared.entry.Entry.TheVariants.{Lease, Take, Tick, Answer, Home}
+use Rattle.vx_record.specs.declared.entry.Entry.TheVariants.{Lease, Take, Tick, Answer, Spent, Notice, Home}
 use Rattle.vx_record.specs.Records.{Record}
 use Rattle.vx_record.specs.Installs.{component_of}
 use Rattle.vx_record.specs.Legal.{Follows}
@@ -64,6 +64,8 @@ of_moment : (i now : ℕ) (h : Record) (e : Entry) → Follows h e → ComesMerg
 of_moment i now h (Take j stage copies) follows kind same = (kind, same)
 of_moment i now h (Tick j moment) follows kind same = ((kind, follows.row.of_lease ∙ (ap (lease_now h) kind ∙ same)), same)
 of_moment i now h (Answer j outputs discarded kept) follows kind same = (kind, same)
+of_moment i now h (Spent j c outcome) follows kind same = (kind, same)
+of_moment i now h (Notice b status) follows kind same = (kind, same)
 of_moment i now h (Home j) follows kind same = (kind, same)
 of_moment i now h e follows kind same = absurd kind
 

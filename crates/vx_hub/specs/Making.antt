@@ -57,11 +57,12 @@ ArePickers (component ∷ components) (picker ∷ rest) = IsPickerFor component 
 abbrev pub AreServed : Record → Type 0
 AreServed h = IfSome (in_force h) (λ (plan : Plan). all_served plan.components ≡ true)
 
--- what an instance keeps as it begins, if its component merges: it can answer, and has nothing, as in each record in which the instance
--- runs that component, was given nothing and holds nothing
+-- what an instance keeps as it begins, if its component merges: it can answer, discarded nothing, and has nothing, as in each record in
+-- which the instance runs that component, was given nothing and holds nothing
 pub record IsKeeperFor (c : Component) (k : Kept) : Type 0 where
   pub merging : merges c ≡ true
   pub fit : k.fit ≡ true
+  pub cleared : k.discarded ≡ []
   pub keeps : (h : Record) (i : ℕ) → component_of h i ≡ Some c → inputs h i ≡ [] → at h (Held i) ≡ [] → Keeps k h i
 
 -- an instance that merges has that, and no other

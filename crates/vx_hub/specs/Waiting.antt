@@ -1,6 +1,7 @@
 -- Until when nobody has work.
 use Rattle.std.specs.Prelude.{◌≡◌, ◌<◌, ◌≤◌, ℕ, true, Option, Some, None, IsSomeAnd, length, min}
 use Rattle.vx_record.specs.Ready.{IsTickReady, waits_until}
+use Rattle.vx_keeping.specs.Keeping.{RunsHost}
 use Rattle.vx_tasks.specs.Joining.{joins_at}
 use Rattle.vx_moves.specs.declared.engine.EngineState.{EngineState}
 use Rattle.vx_moves.specs.Keepers.{CanAnswer, IsKeeper}
@@ -36,10 +37,12 @@ pub record SomeoneChecks {P : Type 0} (engine : EngineState P) (moment : ℕ) : 
   pub joins : joins_at engine.log who ≡ true
   pub due : (now : ℕ) → moment ≤ now → IsTickReady engine.log who now
 
--- and no instance that merges, is unleased, owes nothing and can answer is to do so before a moment, if there is any
+-- and no instance that merges, is unleased, owes nothing and can answer is to do so before a moment, if there is any, unless it runs a
+-- transform that the program hands in
 abbrev pub ComesBy : {P : Type 0} → EngineState P → Option ℕ → ℕ → Type 0
 ComesBy engine soonest i =
-    IsSettled engine i → IsOpen engine i → IsKeeper CanAnswer engine.keepers.items i → (now : ℕ) → IsTickReady engine.log i now → IsSomeAnd soonest (λ moment. moment ≤ now)
+    IsSettled engine i → IsOpen engine i → IsKeeper CanAnswer engine.keepers.items i → (RunsHost engine.log i → ⊥) →
+    (now : ℕ) → IsTickReady engine.log i now → IsSomeAnd soonest (λ moment. moment ≤ now)
 
 -- so it is of each that merges
 abbrev pub NoneChecksBefore : {P : Type 0} → EngineState P → Option ℕ → Type 0

@@ -38,7 +38,8 @@ pub struct Allocated<P> {
 
 impl<P: Port> Hub<P> {
     /// A hub with one instance for each component of a plan, whose record has their install. Each component works with a port, judges
-    /// event by event, merges events, makes its lines itself, or takes what comes and writes nothing.
+    /// event by event, merges as a reduce or a transform that is handed in does, makes its lines itself, or takes what comes and writes
+    /// nothing.
     ///
     /// It is refused for want of memory alone, and then gives back what it was to be made of.
     pub fn new(alloc: Global, parts: Parts<P>, now: u64) -> Result<Self, NewRefused<P>>
@@ -125,7 +126,7 @@ fn is_of(component: &Component, kind: Kind) -> bool
     }
 }
 
-/// Whether a component is a transform that merges.
+/// Whether a component is a transform that merges: a reduce, or one that the program hands in.
 pub fn merges(component: &Component) -> bool
     ensures { result ≡ merges_by component.now }
 {
@@ -136,7 +137,7 @@ pub fn merges(component: &Component) -> bool
 fn joins(settings: &Settings) -> bool
     ensures { result ≡ is_joining settings.now }
 {
-    matches!(settings, Settings::Reduce { .. })
+    matches!(settings, Settings::Reduce { .. } | Settings::Host)
 }
 
 /// The places of the instances of a plan, at which nothing stands.

@@ -1,11 +1,11 @@
-// What instances do that merge events.
+// What instances do that merge.
 ghost use Rattle.std.specs.Prelude.{◌≡◌, ◌<◌, ◌⊎◌, ℕ, length, slice_get, max, true, false, Ok, IfSome, IfNone, IfErr, OnOk, OnErr};
 ghost use Rattle.vx_record.specs.Additions.{OnlyAdds};
-ghost use Rattle.vx_record.specs.Makers.{IsBy};
 ghost use Rattle.vx_tasks.specs.Joining.{joins_at};
 ghost use Rattle.vx_moves.specs.Stands.{Stands};
 ghost use Rattle.vx_ready.specs.Asking.{IsServed};
 ghost use Rattle.vx_ready.specs.Jobs.{IsLeasable};
+ghost use Rattle.vx_landing.specs.Merging.{IsByOrNotice};
 ghost use Rattle.vx_hub.specs.Failures.{HasReason};
 ghost use Rattle.vx_hub.specs.declared.fatal.Fatal.TheVariants.{WantOfMemory as NoMemory};
 ghost use Rattle.vx_hub.specs.Merges.{HasDoneOne, NoneMergesAt, NoneMerges, NoTickDue};
@@ -15,6 +15,7 @@ ghost use Rattle.vx_instances.specs.Staying.{EachState};
 use crate::fatal::Fatal;
 use crate::hub::Hub;
 use vx_ends::Port;
+use vx_keeping::Hosts;
 use vx_landing::merge;
 use vx_moves::EngineState;
 use vx_ready::can_merge;
@@ -22,11 +23,12 @@ use vx_ready::can_merge;
 impl<P: Port> Hub<P> {
     /// Has an unleased instance that merges do what there is to do, in the name of a worker: it is leased, takes what is buffered and
     /// answers that; then it puts out all that it holds if nothing more can come, or acts by itself if its check is due, and is unleased
-    /// again. Tells whether one had something to do; where none had, nothing has changed.
+    /// again. What it discards is spent, and the notices are given that are due then. `hosts` has the transforms that the program hands
+    /// in. Tells whether one had something to do; where none had, nothing has changed.
     ///
     /// The lease is of the moment `now`, in milliseconds; where a call before told a later one, it is of that still. `Fatal` comes for
-    /// want of memory: the instance is unleased then, and each copy that it had is still held.
-    pub fn merge(&mut self, worker: u32, now: u64) -> Result<bool, Fatal>
+    /// want of memory: the instance is unleased then, and still holds each copy that it neither put out nor spent before.
+    pub fn merge<H: Hosts>(&mut self, hosts: &mut H, worker: u32, now: u64) -> Result<bool, Fatal>
         requires { IsHub P.observed self.old }
         ensures hub { IsHub P.observed self.new }
         ensures did { result ≡ Ok true →
@@ -35,7 +37,7 @@ impl<P: Port> Hub<P> {
         ensures noted { OnErr result
             (HasDoneOne worker (max now self.old.engine.run.latest) self.old.engine.log
             self.new.engine.log) }
-        ensures by { OnlyAdds (IsBy worker) self.old.engine.log self.new.engine.log }
+        ensures by { OnlyAdds (IsByOrNotice worker) self.old.engine.log self.new.engine.log }
         ensures unchanged { result ≡ Ok false → self.new ≡ self.old }
         ensures none { result ≡ Ok false → self.old.fatal ≡ false →
             NoneMerges self.old.engine.log (max now self.old.engine.run.latest) }
@@ -56,10 +58,10 @@ impl<P: Port> Hub<P> {
             return Ok(false);
         }
         let now = now.max(self.engine.run.latest);
-        let Some(i) = first_merger(&self.engine, self.mergers.as_slice(), now) else {
+        let Some(i) = first_merger(&self.engine, hosts, self.mergers.as_slice(), now) else {
             return Ok(false);
         };
-        match merge(&mut self.engine, self.alloc, i, worker, now) {
+        match merge(&mut self.engine, self.alloc, hosts, i, worker, now) {
             Ok(()) => Ok(true),
             Err(short) => {
                 self.fatal = true;
@@ -70,7 +72,12 @@ impl<P: Port> Hub<P> {
 }
 
 /// The first of some instances that merge that has something to do at a moment.
-fn first_merger<P: Port>(engine: &EngineState<P>, mergers: &[u32], now: u64) -> Option<u32>
+fn first_merger<P: Port, H: Hosts>(
+    engine: &EngineState<P>,
+    hosts: &H,
+    mergers: &[u32],
+    now: u64,
+) -> Option<u32>
     requires stands { Stands P.observed engine.now }
     requires served { IsServed engine.now }
     requires mergers { AreMergers engine.now.run.plan.components
@@ -83,7 +90,7 @@ fn first_merger<P: Port>(engine: &EngineState<P>, mergers: &[u32], now: u64) -> 
 {
     for k in 0..mergers.len() {
         let i = mergers[k];
-        if can_merge(engine, i, now) {
+        if can_merge(engine, hosts, i, now) {
             return Some(i);
         }
     }

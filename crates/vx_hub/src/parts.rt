@@ -30,7 +30,7 @@ pub type NumberedList<P> = ItemList<Numbered<P>>;
 /// What each component of a plan picks by, in their order, if it is a transform.
 pub type PickerList = ItemList<Option<Picker>>;
 
-/// What each component of a plan keeps as it begins, in their order, if it merges events. It can't be dropped: `end_keepers` ends it.
+/// What each component of a plan keeps as it begins, in their order, if it merges. It can't be dropped: `end_keepers` ends it.
 pub type KeeperList = ItemList<Option<Keeper>>;
 
 /// What a hub is made of: the plan, and for each component, in the order of the components, a port, what it picks by and what it

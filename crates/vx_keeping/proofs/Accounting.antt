@@ -7,7 +7,6 @@ use Rattle.std.proofs.lemmas.Bool.{cases_lt}
 use Rattle.std.proofs.lemmas.List.Sums.{sum_by-append, sum_by-cons}
 use Rattle.vx_ledger.specs.Copies.{Copy, numbers_of}
 use Rattle.vx_transform.specs.Shelves.{copies_put_out, copies_dropped, copies_on}
-use Rattle.vx_reduce.specs.Groups.{copies_held}
 use Rattle.vx_status.specs.declared.outcome.Outcome.{Outcome}
 use Rattle.vx_record.specs.declared.entry.Entry.{Entry}
 use Rattle.vx_record.specs.declared.entry.Entry.TheVariants.{Take, Answer, Spent}
@@ -15,17 +14,17 @@ use Rattle.vx_record.specs.Records.{Record}
 use Rattle.vx_record.specs.Copies.{count, joined}
 use Rattle.vx_record.specs.Places.{put_out}
 use Rattle.vx_record.specs.Places.Place.{Held, Contents}
-use Rattle.vx_record.specs.Lists.{and_rest, shrunk}
+use Rattle.vx_record.specs.Lists.{and_rest, shrunk, without}
 use Rattle.vx_record.specs.Places.{all_puts, left}
 use Rattle.vx_record.specs.Shifts.{at}
 use Rattle.vx_record.specs.Legal.{IsLegal}
 use Rattle.vx_record.proofs.Answers.{count-shrunk}
 use Rattle.vx_record.proofs.Changes.{NoneEmpty, none_empty, stands_once, oldest_full}
-use Rattle.vx_record.proofs.Counts.{count-without, unless, unless-none, unless-some}
+use Rattle.vx_record.proofs.Counts.{count-append, count-without, unless, unless-none, unless-some}
 use Rattle.vx_record.proofs.OnePlace.{conserved}
 use Rattle.vx_record.proofs.Shifting.{stands_at}
 use Rattle.vx_places.specs.Numbers.{IsCopyIn}
-use Rattle.vx_keeping.specs.Kept.{Kept, loose_copies, copies_kept}
+use Rattle.vx_keeping.specs.Kept.{Kept, loose_copies, copies_made, copies_kept}
 use Rattle.vx_keeping.specs.Given.{SameCopies}
 use Rattle.vx_keeping.specs.Keeping.{IsMade, Accounts}
 use Rattle.vx_keeping.specs.Laws.{LeavesKept}
@@ -37,13 +36,14 @@ use Rattle.vx_keeping.proofs.Reporting.{put_out_notes}
 -- WEIGHTS
 -- a keeper's copies part by part
 pub kept_weigh : (k : Kept) (w : Copy → ℕ) → sum_by w (copies_kept k) ≡
-    sum_by w (loose_copies k.loose) + (sum_by w (copies_held k.reduce.groups) + (sum_by w (copies_dropped k.taken.items) + (sum_by w (copies_put_out k.shelf.outputs) + sum_by w (copies_dropped k.shelf.dropped))))
+    sum_by w (loose_copies k.loose) + (sum_by w (copies_made k.maker) + (sum_by w (copies_dropped k.taken.items) + (sum_by w (copies_put_out k.shelf.outputs) + (sum_by w (copies_dropped k.shelf.dropped) + sum_by w k.discarded))))
 kept_weigh k w =
-    let a = sum_by-append w (loose_copies k.loose) (copies_held k.reduce.groups ++ (copies_dropped k.taken.items ++ copies_on k.shelf)) in
-    let b = sum_by-append w (copies_held k.reduce.groups) (copies_dropped k.taken.items ++ copies_on k.shelf) in
-    let c = sum_by-append w (copies_dropped k.taken.items) (copies_on k.shelf) in
-    let d = sum_by-append w (copies_put_out k.shelf.outputs) (copies_dropped k.shelf.dropped) in
-    omega (arith, a, b, c, d)
+    let a = sum_by-append w (loose_copies k.loose) (copies_made k.maker ++ (copies_dropped k.taken.items ++ (copies_on k.shelf ++ k.discarded))) in
+    let b = sum_by-append w (copies_made k.maker) (copies_dropped k.taken.items ++ (copies_on k.shelf ++ k.discarded)) in
+    let c = sum_by-append w (copies_dropped k.taken.items) (copies_on k.shelf ++ k.discarded) in
+    let d = sum_by-append w (copies_on k.shelf) k.discarded in
+    let e = sum_by-append w (copies_put_out k.shelf.outputs) (copies_dropped k.shelf.dropped) in
+    omega (arith, a, b, c, d, e)
 
 -- ONE PLACE
 -- what an instance holds it holds once
@@ -141,52 +141,30 @@ module _ (copy : Copy) (old new : Kept) (loses : Loses copy old new) where
           let l = lost_count c in
           omega (arith, a, e, l, other)
 
--- OUTPUTS ARE PUT OUT
-module _ (k : Kept) (h : Record) (i : ℕ) (legal : IsLegal h) (accounts : Accounts k h i) where
-  -- how often a number is among the outputs, and among what else it has
-  abbrev out_count : ℕ → ℕ
-  out_count c = count c (put_out (notes_of k.shelf.outputs))
+-- SOME GO, AND THE REST STAYS
+module _ (h : Record) (i : ℕ) (legal : IsLegal h) (gone : List ℕ) (rest : (Copy → ℕ) → ℕ) (all : (c : ℕ) → count c (joined (at h (Held i))) ≡ count c gone + rest (of_number c)) where
+  gone_within : (c : ℕ) → count c gone ≤ 1
+  gone_within c = let once = held_once h i legal c in let is = all c in omega (arith, once, is)
 
-  abbrev else_weigh : (Copy → ℕ) → ℕ
-  else_weigh w = sum_by w (loose_copies k.loose) + (sum_by w (copies_held k.reduce.groups) + (sum_by w (copies_dropped k.taken.items) + sum_by w (copies_dropped k.shelf.dropped)))
-
-  out_is : (c : ℕ) → out_count c ≡ sum_by (of_number c) (copies_put_out k.shelf.outputs)
-  out_is c = ap (count c) (put_out_notes k.shelf.outputs) ∙ count_numbers c (copies_put_out k.shelf.outputs)
-
-  all_is : (c : ℕ) → count c (joined (at h (Held i))) ≡ out_count c + else_weigh (of_number c)
-  all_is c =
-      let a = accounts.counted c in
-      let b = count_numbers c (copies_kept k) in
-      let d = kept_weigh k (of_number c) in
-      let e = out_is c in
-      omega (arith, a, b, d, e)
-
-  -- each of them once
-  pub put_within : (c : ℕ) → out_count c ≤ 1
-  put_within c = let once = held_once h i legal c in let all = all_is c in omega (arith, once, all)
-
-  -- what is left behind them is what else it has
-  pub left_is : (c : ℕ) → unless (out_count c) (count c (joined (at h (Held i)))) ≡ else_weigh (of_number c)
+  left_is : (c : ℕ) → unless (count c gone) (count c (joined (at h (Held i)))) ≡ rest (of_number c)
   left_is c =
       let once = held_once h i legal c in
-      let all = all_is c in
-      elim (cases_lt 0 (out_count c)) [
-        | inl some ↦ let u = unless-some (out_count c) (count c (joined (at h (Held i)))) some in omega (arith, once, all, u)
-        | inr none ↦ let u = unless-none (out_count c) (count c (joined (at h (Held i)))) (omega (arith, none)) in omega (arith, once, all, u)
+      let is = all c in
+      elim (cases_lt 0 (count c gone)) [
+        | inl some ↦ let u = unless-some (count c gone) (count c (joined (at h (Held i)))) some in omega (arith, once, is, u)
+        | inr none ↦ let u = unless-none (count c gone) (count c (joined (at h (Held i)))) (omega (arith, none)) in omega (arith, once, is, u)
       ]
 
-  -- each that was held is put out or kept
-  pub put_or_kept : (c : ℕ) → out_count c + count c [] + count c (kept_behind h i k.shelf.outputs) ≡ count c (joined (at h (Held i)))
-  put_or_kept c =
-      let a = count-without c (put_out (notes_of k.shelf.outputs)) (joined (at h (Held i))) in
+  without_is : (c : ℕ) → count c gone + count c (without gone (joined (at h (Held i)))) ≡ count c (joined (at h (Held i)))
+  without_is c =
+      let a = count-without c gone (joined (at h (Held i))) in
       let b = left_is c in
-      let all = all_is c in
-      omega (arith, a, b, all)
+      let is = all c in
+      omega (arith, a, b, is)
 
-  -- and nothing is kept where it has nothing else
-  pub none_kept : ((w : Copy → ℕ) → else_weigh w ≡ 0) → kept_behind h i k.shelf.outputs ≡ []
-  none_kept none = none_counted (kept_behind h i k.shelf.outputs) (λ c.
-      let a = count-without c (put_out (notes_of k.shelf.outputs)) (joined (at h (Held i))) in
+  without_none : ((w : Copy → ℕ) → rest w ≡ 0) → without gone (joined (at h (Held i))) ≡ []
+  without_none none = none_counted (without gone (joined (at h (Held i)))) (λ c.
+      let a = count-without c gone (joined (at h (Held i))) in
       let b = left_is c in
       let n = none (of_number c) in
       omega (arith, a, b, n))
@@ -195,14 +173,54 @@ module _ (k : Kept) (h : Record) (i : ℕ) (legal : IsLegal h) (accounts : Accou
       none_counted [] none = refl
       none_counted (x ∷ xs) none = let e = none x in absurd (grind (arith, nat_tests, e))
 
-  -- the keeper without them, behind the Answer
-  pub put_out_accounts : (new : Kept) (kept : List ℕ) → ((w : Copy → ℕ) → sum_by w (copies_kept new) ≡ else_weigh w) →
-      Accounts new (Answer i (notes_of k.shelf.outputs) [] kept ∷ h) i
-  put_out_accounts new kept is = record {
+-- OUTPUTS ARE PUT OUT, AND COPIES DISCARDED
+module _ (k : Kept) (h : Record) (i : ℕ) (legal : IsLegal h) (accounts : Accounts k h i) where
+  -- what else it has
+  abbrev else_weigh : (Copy → ℕ) → ℕ
+  else_weigh w = sum_by w (loose_copies k.loose) + (sum_by w (copies_made k.maker) + (sum_by w (copies_dropped k.taken.items) + sum_by w (copies_dropped k.shelf.dropped)))
+
+  abbrev rest_weigh : (Copy → ℕ) → ℕ
+  rest_weigh w = sum_by w k.discarded + else_weigh w
+
+  out_all : (c : ℕ) → count c (joined (at h (Held i))) ≡ count c (put_out (notes_of k.shelf.outputs)) + rest_weigh (of_number c)
+  out_all c =
+      let a = accounts.counted c in
+      let b = count_numbers c (copies_kept k) in
+      let d = kept_weigh k (of_number c) in
+      let e = ap (count c) (put_out_notes k.shelf.outputs) ∙ count_numbers c (copies_put_out k.shelf.outputs) in
+      omega (arith, a, b, d, e)
+
+  both_all : (c : ℕ) → count c (joined (at h (Held i))) ≡ count c (put_out (notes_of k.shelf.outputs) ++ numbers_of k.discarded) + else_weigh (of_number c)
+  both_all c =
+      let a = out_all c in
+      let b = count-append c (put_out (notes_of k.shelf.outputs)) (numbers_of k.discarded) in
+      let d = count_numbers c k.discarded in
+      omega (arith, a, b, d)
+
+  -- each output's copy once
+  pub put_within : (c : ℕ) → count c (put_out (notes_of k.shelf.outputs)) ≤ 1
+  put_within = gone_within h i legal (put_out (notes_of k.shelf.outputs)) rest_weigh out_all
+
+  -- each that was held is put out, discarded or kept
+  pub put_or_kept : (c : ℕ) →
+      count c (put_out (notes_of k.shelf.outputs)) + count c (numbers_of k.discarded) + count c (kept_behind h i k.shelf.outputs k.discarded) ≡ count c (joined (at h (Held i)))
+  put_or_kept c =
+      let a = without_is h i legal (put_out (notes_of k.shelf.outputs) ++ numbers_of k.discarded) else_weigh both_all c in
+      let b = count-append c (put_out (notes_of k.shelf.outputs)) (numbers_of k.discarded) in
+      omega (arith, a, b)
+
+  -- and nothing is kept where it has nothing else
+  pub none_kept : ((w : Copy → ℕ) → else_weigh w ≡ 0) → kept_behind h i k.shelf.outputs k.discarded ≡ []
+  none_kept = without_none h i legal (put_out (notes_of k.shelf.outputs) ++ numbers_of k.discarded) else_weigh both_all
+
+  -- the keeper without its outputs, behind the Answer
+  pub put_out_accounts : (new : Kept) (gone kept : List ℕ) → ((w : Copy → ℕ) → sum_by w (copies_kept new) ≡ rest_weigh w) →
+      Accounts new (Answer i (notes_of k.shelf.outputs) gone kept ∷ h) i
+  put_out_accounts new gone kept is = record {
     counted = λ c.
         let a = ap (λ ps. count c (joined ps)) (if_self i (shrunk (put_out (notes_of k.shelf.outputs)) (at h (Held i))) (at h (Held i))) in
         let b = count-shrunk c (put_out (notes_of k.shelf.outputs)) (at h (Held i)) in
-        let d = left_is c in
+        let d = left_is h i legal (put_out (notes_of k.shelf.outputs)) rest_weigh out_all c in
         let e = count_numbers c (copies_kept new) in
         let f = is (of_number c) in
         omega (arith, a, b, d, e, f);
@@ -210,5 +228,5 @@ module _ (k : Kept) (h : Record) (i : ℕ) (legal : IsLegal h) (accounts : Accou
         let a = is (of_copy copy) in
         let b = kept_weigh k (of_copy copy) in
         let l = in_weighs (copies_kept new) copy there in
-        made_stays h (Answer i (notes_of k.shelf.outputs) [] kept) copy (accounts.known copy (weighs_in (copies_kept k) copy (omega (arith, a, b, l))));
+        made_stays h (Answer i (notes_of k.shelf.outputs) gone kept) copy (accounts.known copy (weighs_in (copies_kept k) copy (omega (arith, a, b, l))));
   }

@@ -6,6 +6,11 @@ pub mod Reporting
 pub mod Filling
 pub mod Accounting
 pub mod Carrying
+pub mod Firsts
+pub mod Sound
+pub mod Idling
+pub mod Making
+pub mod Off
 pub mod Going
 pub mod Answering
 pub mod Popping

@@ -109,7 +109,7 @@ pub outputs_known : OutputsKnown
 outputs_known k h i kept made legal event copy is =
     let a = kept_weigh k (of_copy copy) in
     let l = among_weighs k.shelf.outputs event copy is in
-    let known = made_stays h (Answer i (notes_of k.shelf.outputs) [] kept) copy (made.accounts.known copy (weighs_in (copies_kept k) copy (omega (arith, a, l)))) in
+    let known = made_stays h (Answer i (notes_of k.shelf.outputs) (numbers_of k.discarded) kept) copy (made.accounts.known copy (weighs_in (copies_kept k) copy (omega (arith, a, l)))) in
     record {
       made = known.made;
       said = said_among k.shelf.outputs event copy (event_of h copy.number) (put_within k h i legal.1 made.accounts copy.number) is;

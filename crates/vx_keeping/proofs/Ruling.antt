@@ -10,11 +10,11 @@ use Rattle.vx_plan.specs.Components.{is_transform}
 use Rattle.vx_plan.specs.Options.{if_any, conditions_of}
 use Rattle.vx_record.specs.Records.{Record}
 use Rattle.vx_record.specs.Installs.{transform_at}
-use Rattle.vx_record.specs.Transforms.{Rule, reduces, rule_of, test_of, AllMean, RunsBy}
+use Rattle.vx_record.specs.Transforms.{Rule, reduces, is_free, rule_of, test_of, AllMean, RunsBy}
 use Rattle.vx_record.proofs.Rules.{some_is, rule_is, mean_is}
 use Rattle.vx_reduce.specs.declared.reduce_settings.ReduceSettings.{ReduceSettings}
 use Rattle.vx_reduce.specs.Standing.{IsTestOf, AreMeant}
-use Rattle.vx_keeping.specs.Keeping.{RunsWith}
+use Rattle.vx_keeping.specs.Keeping.{RunsWith, RunsHost}
 use Rattle.vx_keeping.specs.Answers.{Reduces}
 
 -- the options that some settings are
@@ -118,3 +118,30 @@ reducing_rule h i settings rule runs follows =
     let ruled : Some (reduces (rule_with settings follows.tests)) ≡ Some rule =
     ap (λ (o : Options). rule_of o follows.tests) (sym runs.set) ∙ rule_is h i rule runs.component follows runs.runs in
     (rule_with settings follows.tests, sym (some_is _ _ ruled))
+
+-- A HOST
+-- the instance that runs one runs by the rule that is free
+pub host_rule : (h : Record) (i : ℕ) → RunsHost h i → RunsBy h i is_free
+host_rule h i runs = record {
+  component = runs.component;
+  runs = runs.runs;
+  transform = runs.transform;
+  tests = [];
+  mean = subst (λ (o : Options). AllMean (conditions_of o) []) (sym runs.set) tt;
+  ruled = ap (λ (o : Options). rule_of o []) runs.set;
+}
+
+-- and by no other
+pub free_rule : (h : Record) (i : ℕ) (rule : Rule) → RunsHost h i → RunsBy h i rule → rule ≡ is_free
+free_rule h i rule runs follows =
+    let ruled : Some is_free ≡ Some rule = ap (λ (o : Options). rule_of o follows.tests) (sym runs.set) ∙ rule_is h i rule runs.component follows runs.runs in
+    sym (some_is _ _ ruled)
+
+reducing_not_free : (s : Settings) → reduces s ≡ is_free → ⊥
+reducing_not_free s is = cc
+
+pub host_not_reduces : (h : Record) (i : ℕ) → RunsHost h i → Reduces h i → ⊥
+host_not_reduces h i runs rule = reducing_not_free rule.0 (free_rule h i (reduces rule.0) runs rule.1)
+
+pub host_transforms : (h : Record) (i : ℕ) → RunsHost h i → transform_at h i ≡ true
+host_transforms h i runs = ap (λ (o : Option Component). elim o [ None ↦ false | Some c ↦ is_transform c ]) runs.runs ∙ runs.transform

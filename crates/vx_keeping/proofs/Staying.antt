@@ -1,5 +1,5 @@
 -- What stays as a record has one entry more.
-use Rattle.std.proofs.Common.{◌≡◌, ℕ, ◌<◌, Bool, true, false, ◌||◌, ◌&&◌, not, Some, None, List, [], ◌∷◌, ◌++◌, map, reverse, refl, sym, ap, ◌∙◌, arith}
+use Rattle.std.proofs.Common.{◌≡◌, ℕ, ◌<◌, Bool, true, false, ◌||◌, ◌&&◌, not, Some, None, List, [], ◌∷◌, ◌++◌, map, reverse, refl, sym, ap, ◌∙◌, subst, arith, append-nil}
 use Rattle.std.specs.Prelude.{◌==◌, ◌≢◌, filter, if◌then◌else◌}
 use Rattle.std.proofs.lemmas.Bool.Decides.{nat_tests}
 use Rattle.vx_ledger.specs.Copies.{Copy}
@@ -10,22 +10,23 @@ use Rattle.vx_reduce.specs.declared.reduce_settings.ReduceSettings.{ReduceSettin
 use Rattle.vx_record.specs.declared.entry.Entry.{Entry}
 use Rattle.vx_record.specs.declared.entry.Entry.TheVariants.{Install, Lease, Born, Split, Take, Tick, Answer, Spent}
 use Rattle.vx_record.specs.Records.{Record}
-use Rattle.vx_record.specs.Copies.{count, joined, next_copy}
+use Rattle.vx_record.specs.Copies.{count, joined, next_copy, all_of, spends, times_spent}
 use Rattle.vx_record.specs.Turns.{lease_now}
 use Rattle.vx_record.specs.Places.Place.{Held}
 use Rattle.vx_record.specs.Batches.{parent, batch_of}
-use Rattle.vx_record.specs.Parcels.{parcel_event}
+use Rattle.vx_record.specs.Parcels.{first_copy, parcel_event}
 use Rattle.vx_record.specs.Lists.{shrunk}
 use Rattle.vx_record.specs.Installs.{component_of, transform_at}
 use Rattle.vx_record.specs.Inputs.{Input as NotedInput, unanswered, inputs, at_answer, answered, is_tick}
 use Rattle.vx_record.specs.Transforms.{Rule, RunsBy}
-use Rattle.vx_record.specs.Owing.{took_since, owes, owes_birth, owes_spends_in, owes_discards, owes_answer}
+use Rattle.vx_record.specs.Tallies.{firsts_in}
+use Rattle.vx_record.specs.Owing.{last_discarded, took_since, owes, owes_birth, owes_spends_in, owes_discards, owes_answer}
 use Rattle.vx_record.specs.Shifts.{at}
 use Rattle.vx_record.specs.Legal.{IsLegal}
 use Rattle.vx_record.proofs.Answers.{count-shrunk}
-use Rattle.vx_record.proofs.Counts.{unless, unless-none, unless-some}
+use Rattle.vx_record.proofs.Counts.{count-append, unless, unless-none, unless-some}
 use Rattle.vx_record.proofs.Live.{if_lt}
-use Rattle.vx_keeping.specs.Keeping.{IsMade, noted_input_at, taken_in, RunsWith}
+use Rattle.vx_keeping.specs.Keeping.{IsMade, noted_input_at, taken_in, RunsWith, RunsHost, OwesOnly}
 use Rattle.vx_keeping.specs.Laws.{LeavesKept}
 
 -- COPIES
@@ -112,6 +113,10 @@ pub with_stays : (h : Record) (i : ℕ) (e : Entry) (s : ReduceSettings) → IsL
 with_stays h i e s legal runs =
     record { component = runs.component; runs = component_stays h i e runs.component legal runs.runs ∙ runs.runs; transform = runs.transform; set = runs.set }
 
+pub host_stays : (h : Record) (i : ℕ) (e : Entry) → IsLegal (e ∷ h) → RunsHost h i → RunsHost (e ∷ h) i
+host_stays h i e legal runs =
+    record { component = runs.component; runs = component_stays h i e runs.component legal runs.runs ∙ runs.runs; transform = runs.transform; set = runs.set }
+
 pub rule_before : (h : Record) (i : ℕ) (e : Entry) (s : ReduceSettings) (rule : Rule) → IsLegal (e ∷ h) → RunsWith h i s → RunsBy (e ∷ h) i rule → RunsBy h i rule
 rule_before h i e s rule legal runs by = record {
   component = by.component;
@@ -121,6 +126,22 @@ rule_before h i e s rule legal runs by = record {
   mean = by.mean;
   ruled = by.ruled;
 }
+
+-- WHAT WAS DISCARDED
+last_stays : (h : Record) (i : ℕ) (e : Entry) → LeavesKept h i e → last_discarded (e ∷ h) i ≡ last_discarded h i
+last_stays h i (Answer j outputs discarded kept) leaves = if_not j i discarded (last_discarded h i) leaves
+last_stays h i e leaves = refl
+
+pub unspent_before : (h : Record) (e : Entry) (c : ℕ) → times_spent (e ∷ h) c ≡ 0 → times_spent h c ≡ 0
+unspent_before h e c none = let a = count-append c (all_of spends h) (spends e) in omega (arith, a, none)
+
+pub owes_stays : (h : Record) (i : ℕ) (e : Entry) (left : List ℕ) → LeavesKept h i e → OwesOnly h i left → OwesOnly (e ∷ h) i left
+owes_stays h i e left leaves owed c some none = owed c (subst (λ xs. 0 < count c xs) (last_stays h i e leaves) some) (unspent_before h e c none)
+
+-- the copies that came first
+pub firsts_stay : (h : Record) (i : ℕ) (e : Entry) → LeavesKept h i e → all_of (firsts_in i) (e ∷ h) ≡ all_of (firsts_in i) h
+firsts_stay h i (Take j s copies) leaves = ap (λ xs. all_of (firsts_in i) h ++ xs) (if_not j i (first_copy copies ∷ []) [] leaves) ∙ append-nil (all_of (firsts_in i) h)
+firsts_stay h i e leaves = append-nil (all_of (firsts_in i) h)
 
 -- A LEASE
 or_right : (a b : Bool) → (a || b) ≡ false → b ≡ false

@@ -1,5 +1,6 @@
 -- What holds of keepers beside their calls.
 use Rattle.std.specs.Prelude.{◌≡◌, ◌≢◌, ◌≤◌, ◌↔◌, ℕ, true, false, Option, Some, List, [], ◌∷◌, ◌++◌, IsSomeAnd}
+use Rattle.vx_ledger.specs.Copies.{numbers_of}
 use Rattle.vx_condition.specs.Steps.{ticks}
 use Rattle.vx_condition.specs.Reducing.{Settings, due}
 use Rattle.vx_record.specs.declared.entry.Entry.{Entry}
@@ -17,8 +18,8 @@ use Rattle.vx_record.specs.Makers.{Spares}
 use Rattle.vx_record.specs.Additions.{OnlyAdds}
 use Rattle.vx_places.specs.Numbers.{parcels_out}
 use Rattle.vx_places.specs.Holding.{AreKnown}
-use Rattle.vx_keeping.specs.Kept.{Kept, copies_kept}
-use Rattle.vx_keeping.specs.Keeping.{taken_in, Accounts, Keeps, HasMade}
+use Rattle.vx_keeping.specs.Kept.{Kept, HoldsNone, copies_kept}
+use Rattle.vx_keeping.specs.Keeping.{taken_in, RunsHost, Accounts, Keeps, HasMade}
 use Rattle.vx_keeping.specs.Answers.{notes_of, kept_behind, MayBeNoted, IsDueBehind}
 
 -- an entry leaves what the instance keeps: it is no Take or Answer of it, and spends nothing that it holds
@@ -54,9 +55,13 @@ IsNoTick i other = Unit {0}
 abbrev pub TicksStay : Type 0
 TicksStay = (h : Record) (i : ℕ) (e : Entry) → IsNoTick i e → ticks_wait h i ≡ false → ticks_wait (e ∷ h) i ≡ false
 
--- where no parcel waits, a keeper that is fit was given what is answered, and no more
+-- where no parcel waits, and nothing is left of what was discarded, a keeper that is fit was given what is answered, and no more
 abbrev pub NoneTaken : Type 0
-NoneTaken = (k : Kept) (h : Record) (i : ℕ) → Keeps k h i → k.fit ≡ true → taken_in h i ≡ [] → HasMade k h i []
+NoneTaken = (k : Kept) (h : Record) (i : ℕ) → Keeps k h i → k.fit ≡ true → k.discarded ≡ [] → taken_in h i ≡ [] → HasMade k h i []
+
+-- nothing is, where the instance runs no host
+abbrev pub OnlyHostsDiscard : Type 0
+OnlyHostsDiscard = (k : Kept) (h : Record) (i : ℕ) → Keeps k h i → k.fit ≡ true → (RunsHost h i → ⊥) → k.discarded ≡ []
 
 -- and the other way round
 abbrev pub NothingMade : Type 0
@@ -97,30 +102,30 @@ DueIs =
 abbrev pub TickIsDue : Type 0
 TickIsDue = (h : Record) (i moment now : ℕ) → ticks_wait h i ≡ false → IsDueBehind (Some moment) h i (taken_in h i) → moment ≤ now → IsTickDue h i now
 
--- and before that none is, of a keeper that can answer
+-- and before that none is, of a keeper that can answer, where the instance runs no host
 abbrev pub NoTickBefore : Type 0
 NoTickBefore =
-    (k : Kept) (h : Record) (i now : ℕ) (soonest : Option ℕ) → k.fit ≡ true → Keeps k h i → ticks_wait h i ≡ false → IsDueBehind soonest h i (taken_in h i) →
+    (k : Kept) (h : Record) (i now : ℕ) (soonest : Option ℕ) → k.fit ≡ true → Keeps k h i → (RunsHost h i → ⊥) → ticks_wait h i ≡ false → IsDueBehind soonest h i (taken_in h i) →
     IsTickDue h i now → IsSomeAnd soonest (λ moment. moment ≤ now)
 
--- what a keeper made of all that is to be answered may be noted
+-- what a keeper made and discards of all that is to be answered may be noted
 abbrev pub MadeMayBeNoted : Type 0
-MadeMayBeNoted = (k : Kept) (h : Record) (i : ℕ) → IsLegal h → HasMade k h i (to_answer h i) → MayBeNoted h i k.shelf.outputs
+MadeMayBeNoted = (k : Kept) (h : Record) (i : ℕ) → IsLegal h → HasMade k h i (to_answer h i) → MayBeNoted h i k.shelf.outputs k.discarded
 
 -- the record knows these outputs then, each with its event
 abbrev pub OutputsKnown : Type 0
 OutputsKnown =
-    (k : Kept) (h : Record) (i : ℕ) (kept : List ℕ) → HasMade k h i (to_answer h i) → IsLegal (Answer i (notes_of k.shelf.outputs) [] kept ∷ h) →
-    AreKnown (Answer i (notes_of k.shelf.outputs) [] kept ∷ h) (parcels_out k.shelf.outputs)
+    (k : Kept) (h : Record) (i : ℕ) (kept : List ℕ) → HasMade k h i (to_answer h i) → IsLegal (Answer i (notes_of k.shelf.outputs) (numbers_of k.discarded) kept ∷ h) →
+    AreKnown (Answer i (notes_of k.shelf.outputs) (numbers_of k.discarded) kept ∷ h) (parcels_out k.shelf.outputs)
 
--- behind it the instance keeps nothing where the reduce holds no group
+-- behind it the instance keeps nothing where the maker holds nothing
 abbrev pub NoneKept : Type 0
 NoneKept =
-    (k : Kept) (h : Record) (i : ℕ) (given : List NotedInput) → IsLegal h → HasMade k h i given → k.reduce.groups ≡ [] → kept_behind h i k.shelf.outputs ≡ []
+    (k : Kept) (h : Record) (i : ℕ) (given : List NotedInput) → IsLegal h → HasMade k h i given → HoldsNone k.maker → kept_behind h i k.shelf.outputs k.discarded ≡ []
 
 -- so an instance that is out and holds something may answer; to the flush, where its end allows that
 abbrev pub MayAnswerMade : Type 0
 MayAnswerMade =
     (k : Kept) (h : Record) (i : ℕ) → IsLegal h → is_out h i ≡ true → HasMade k h i (to_answer h i) → at h (Held i) ≢ [] →
-    (unanswered h i ≡ [] → MayFlush h i (kept_behind h i k.shelf.outputs)) →
-    MayAnswer h i (notes_of k.shelf.outputs) [] (kept_behind h i k.shelf.outputs)
+    (unanswered h i ≡ [] → MayFlush h i (kept_behind h i k.shelf.outputs k.discarded)) →
+    MayAnswer h i (notes_of k.shelf.outputs) (numbers_of k.discarded) (kept_behind h i k.shelf.outputs k.discarded)

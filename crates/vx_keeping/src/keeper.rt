@@ -1,4 +1,4 @@
-ghost use Rattle.std.specs.Prelude.{◌≡◌, ◌<◌, ◌≤◌, ◌↔◌, ℕ, true, false, [], ◌∷◌, ◌++◌, List, None, length, OnOk, OnErr, IfOk, IfSome, IfNone, IsNone, IsTrue};
+ghost use Rattle.std.specs.Prelude.{◌≡◌, ◌<◌, ◌≤◌, ◌↔◌, ℕ, true, false, [], ◌∷◌, ◌++◌, List, None, length, OnOk, OnErr, IfOk, IfSome, IfNone, IsNone, IsTrue, count_by};
 ghost use Rattle.vx_ledger.specs.Copies.{numbers_of};
 ghost use Rattle.vx_transform.specs.Shelves.{copies_put_out};
 ghost use Rattle.vx_condition.specs.Steps.{ticks};
@@ -6,27 +6,31 @@ ghost use Rattle.vx_record.specs.Records.{Record};
 ghost use Rattle.vx_record.specs.Turns.{lease_now};
 ghost use Rattle.vx_record.specs.Places.Place.{Held};
 ghost use Rattle.vx_record.specs.Inputs.{Input as NotedInput, inputs, to_answer, flush};
+ghost use Rattle.vx_record.specs.Tallies.{is_first};
 ghost use Rattle.vx_record.specs.Shifts.{at};
 ghost use Rattle.vx_record.specs.Legal.{IsLegal};
 ghost use Rattle.vx_record.specs.declared.entry.Entry.TheVariants.{Take, Answer};
 ghost use Rattle.vx_places.specs.Holding.{AreKnown};
-ghost use Rattle.vx_keeping.specs.Kept.{loose_copies, copies_kept};
+ghost use Rattle.vx_keeping.specs.Kept.{loose_copies, copies_kept, HoldsNone};
 ghost use Rattle.vx_keeping.specs.Given.{SameCopies};
 ghost use Rattle.vx_keeping.specs.Stored.{copies_stored, IsSettled};
-ghost use Rattle.vx_keeping.specs.Keeping.{taken_in, RunsWith, Accounts, Keeps, HasMade};
-ghost use Rattle.vx_keeping.specs.Answers.{notes_of, IsDueBehind, GivesUp};
+ghost use Rattle.vx_keeping.specs.Keeping.{taken_in, RunsWith, RunsHost, Accounts, Keeps, HasMade};
+ghost use Rattle.vx_keeping.specs.Answers.{notes_of, IsDueBehind, GivesUp, TakesOut};
 
+use crate::hosts::Hosts;
+use crate::maker::Maker;
 use crate::store::Store;
 use std::alloc::Global;
 use std::marker::Model;
 use std::mem;
 use vx_ledger::{Finalizer, Parcel};
-use vx_reduce::ReduceSettings;
-use vx_transform::{Output, Transform};
+use vx_reduce::{Reduce, ReduceSettings};
+use vx_transform::Output;
 use vx_value::{ItemList, WantOfMemory};
 
-/// What an instance that reduces keeps from one answer to the next: the groups that its reduce holds, the parcels that it took since
-/// the last answer, and what it puts out as the next one. It can't be dropped, since it holds copies: `end` ends one that has none.
+/// What an instance keeps from one answer to the next that reduces, or runs a transform that the program hands in: the groups that its
+/// reduce holds, the parcels that it took since the last answer, what it puts out and discards as the next one, and what is left of what
+/// the last one discarded. It can't be dropped, since it holds copies: `end` ends one that has none.
 ///
 /// `Keeps` says that this is what a record has, and `HasMade` that so much was given behind what is answered, and that what this has
 /// it put out waits for its Answer. What a call ensures is that it leads from each record of which one of the two is so to that with
@@ -58,15 +62,40 @@ impl Model for Keeper {
 impl Keeper {
     /// A keeper that has nothing, with room for at least so many parcels. It is that of each record in which the instance reduces by
     /// these settings, was given nothing and holds nothing.
-    pub fn new(alloc: Global, settings: ReduceSettings, room: usize) -> Result<Self, WantOfMemory>
+    pub fn reducing(
+        alloc: Global,
+        settings: ReduceSettings,
+        room: usize,
+    ) -> Result<Self, WantOfMemory>
         ensures keeps { IfOk result
             (λ k. (h : Record) (i : ℕ) → RunsWith h i settings → inputs h i ≡ [] →
             at h (Held i) ≡ [] → Keeps k h i) }
         ensures fit { IfOk result (λ k. k.fit ≡ true) }
         ensures room { IfOk result (λ k. room ≤ k.taken.room) }
         ensures none { IfOk result (λ k. copies_kept k ≡ []) }
+        ensures discarded { IfOk result (λ k. k.discarded ≡ []) }
     {
-        let store = Store::new(alloc, settings, room)?;
+        let reduce = Reduce::new(settings)?;
+        let store = Store::new(alloc, Maker::Reduce(reduce), room)?;
+        Ok(Keeper {
+            store,
+            loose: None,
+            fit: true,
+        })
+    }
+
+    /// A keeper that has nothing, with room for at least so many parcels. It is that of each record in which the instance runs a
+    /// transform that the program hands in, was given nothing and holds nothing.
+    pub fn hosting(alloc: Global, room: usize) -> Result<Self, WantOfMemory>
+        ensures keeps { IfOk result
+            (λ k. (h : Record) (i : ℕ) → RunsHost h i → inputs h i ≡ [] →
+            at h (Held i) ≡ [] → Keeps k h i) }
+        ensures fit { IfOk result (λ k. k.fit ≡ true) }
+        ensures room { IfOk result (λ k. room ≤ k.taken.room) }
+        ensures none { IfOk result (λ k. copies_kept k ≡ []) }
+        ensures discarded { IfOk result (λ k. k.discarded ≡ []) }
+    {
+        let store = Store::new(alloc, Maker::Host, room)?;
         Ok(Keeper {
             store,
             loose: None,
@@ -97,7 +126,7 @@ impl Keeper {
         !self.store.taken.is_empty()
     }
 
-    /// Takes a parcel, for which there is room, as a Take says. It takes no memory.
+    /// Takes a parcel, for which there is room, as a Take says. What is discarded stays so while it is fit. It takes no memory.
     pub fn take(&mut self, parcel: Parcel)
         requires { length self.old.taken.items < self.old.taken.room }
         ensures keeps { (h : Record) (i stage : ℕ) → Keeps self.old h i →
@@ -105,6 +134,7 @@ impl Keeper {
             Keeps self.new (Take i stage (numbers_of parcel.finalizers) ∷ h) i }
         ensures same { SameCopies
             (copies_kept self.old ++ parcel.finalizers) (copies_kept self.new) }
+        ensures discarded { self.old.fit ≡ true → self.new.discarded ≡ self.old.discarded }
         ensures fit { self.new.fit ≡ self.old.fit }
         ensures room { self.new.taken.room ≡ self.old.taken.room }
     {
@@ -114,14 +144,20 @@ impl Keeper {
         }
     }
 
-    /// Gives the reduce all that was taken, in order, at the moment of the instance's last Lease. What that puts out may be noted as
-    /// the answer then, or behind a tick.
+    /// Gives its maker all that was taken, in order, at the moment of the instance's last Lease. What that puts out and discards may be
+    /// noted as the answer then, or behind a tick. What the last answer discarded is spent before.
     ///
     /// For want of memory it may have given some first ones, and isn't fit any more. One that wasn't fit answers the same.
-    pub fn answer(&mut self, alloc: Global, now: u64) -> Result<(), WantOfMemory>
+    pub fn answer<H: Hosts>(
+        &mut self,
+        alloc: Global,
+        hosts: &mut H,
+        instance: u32,
+        now: u64,
+    ) -> Result<(), WantOfMemory>
         ensures made { OnOk result
             ((h : Record) (i : ℕ) → now ≡ lease_now h i → Keeps self.old h i →
-            HasMade self.new h i (taken_in h i)) }
+            self.old.discarded ≡ [] → HasMade self.new h i (taken_in h i)) }
         ensures had { OnOk result (self.old.fit ≡ true) }
         ensures fit { OnOk result (self.new.fit ≡ true) }
         ensures short { OnErr result
@@ -133,7 +169,7 @@ impl Keeper {
         if !self.fit {
             return Err(WantOfMemory);
         }
-        match self.store.answer(alloc, now) {
+        match self.store.answer(alloc, hosts, instance, now) {
             Ok(()) => Ok(()),
             Err(WantOfMemory) => {
                 make_unfit(&mut self.store, &mut self.loose, &mut self.fit);
@@ -142,10 +178,16 @@ impl Keeper {
         }
     }
 
-    /// Has the reduce act by itself at a moment, behind what it was given, as a Tick says.
+    /// Has its maker act by itself at a moment, behind what it was given, as a Tick says.
     ///
     /// For want of memory it may have put out a part, and isn't fit any more. One that wasn't fit answers the same.
-    pub fn tick(&mut self, alloc: Global, now: u64) -> Result<(), WantOfMemory>
+    pub fn tick<H: Hosts>(
+        &mut self,
+        alloc: Global,
+        hosts: &mut H,
+        instance: u32,
+        now: u64,
+    ) -> Result<(), WantOfMemory>
         ensures made { OnOk result
             ((h : Record) (i : ℕ) (given : List NotedInput) → HasMade self.old h i given →
             HasMade self.new h i (given ++ record { step = ticks now; copies = [] } ∷ [])) }
@@ -160,7 +202,7 @@ impl Keeper {
         if !self.fit {
             return Err(WantOfMemory);
         }
-        match self.store.tick(alloc, now) {
+        match self.store.tick(alloc, hosts, instance, now) {
             Ok(()) => Ok(()),
             Err(WantOfMemory) => {
                 make_unfit(&mut self.store, &mut self.loose, &mut self.fit);
@@ -169,16 +211,21 @@ impl Keeper {
         }
     }
 
-    /// Has the reduce put out all that it holds, behind what it was given, since nothing comes any more.
+    /// Has its maker put out all that it holds, behind what it was given, since nothing comes any more.
     ///
     /// For want of memory it may have put out a part, and isn't fit any more. One that wasn't fit answers the same.
-    pub fn flush(&mut self, alloc: Global) -> Result<(), WantOfMemory>
+    pub fn flush<H: Hosts>(
+        &mut self,
+        alloc: Global,
+        hosts: &mut H,
+        instance: u32,
+    ) -> Result<(), WantOfMemory>
         ensures made { OnOk result
             ((h : Record) (i : ℕ) (given : List NotedInput) → HasMade self.old h i given →
             HasMade self.new h i (given ++ flush ∷ [])) }
         ensures had { OnOk result (self.old.fit ≡ true) }
         ensures fit { OnOk result (self.new.fit ≡ true) }
-        ensures groups { OnOk result (self.new.reduce.groups ≡ []) }
+        ensures emptied { OnOk result (HoldsNone self.new.maker) }
         ensures short { OnErr result
             ((h : Record) (i : ℕ) → Accounts self.old h i → Keeps self.new h i) }
         ensures same { SameCopies (copies_kept self.old) (copies_kept self.new) }
@@ -188,7 +235,7 @@ impl Keeper {
         if !self.fit {
             return Err(WantOfMemory);
         }
-        match self.store.flush(alloc) {
+        match self.store.flush(alloc, hosts, instance) {
             Ok(()) => Ok(()),
             Err(WantOfMemory) => {
                 make_unfit(&mut self.store, &mut self.loose, &mut self.fit);
@@ -214,20 +261,42 @@ impl Keeper {
         self.store.ready.len()
     }
 
-    /// Takes the outputs off, the oldest first, as an Answer says that was to all that was to be answered. It takes no memory: what made
-    /// them found it.
+    /// How many parcels the copies came first in that the next answer discards.
+    pub fn dropped(&self) -> u64
+        ensures { (h : Record) (i : ℕ) (given : List NotedInput) → IsLegal h →
+            HasMade self.now h i given →
+            result ≡ count_by (is_first h i) (numbers_of self.now.discarded) }
+    {
+        self.store.dropped
+    }
+
+    /// Takes the outputs off, the oldest first, as an Answer says that was to all that was to be answered. What it discards is taken out
+    /// behind it. It takes no memory: what made them found it.
     pub fn put_out(&mut self) -> ItemList<Output>
         ensures outputs { self.old.fit ≡ true → result ≡ self.old.shelf.outputs }
         ensures keeps { (h : Record) (i : ℕ) (kept : List ℕ) →
             HasMade self.old h i (to_answer h i) →
-            IsLegal (Answer i (notes_of result) [] kept ∷ h) →
-            Keeps self.new (Answer i (notes_of result) [] kept ∷ h) i }
+            IsLegal (Answer i (notes_of result) (numbers_of self.old.discarded) kept ∷ h) →
+            Keeps self.new
+            (Answer i (notes_of result) (numbers_of self.old.discarded) kept ∷ h) i }
         ensures same { SameCopies
             (copies_kept self.old) (copies_put_out result ++ copies_kept self.new) }
+        ensures discarded { self.new.discarded ≡ self.old.discarded }
         ensures fit { self.new.fit ≡ self.old.fit }
         ensures room { self.new.taken.room ≡ self.old.taken.room }
     {
         self.store.put_out()
+    }
+
+    /// Takes a copy out that the last answer discarded, to be spent. `None` exactly where none is left. It takes no memory.
+    pub fn next_discarded(&mut self) -> Option<Finalizer>
+        ensures some { IfSome result (λ copy. TakesOut copy self.old self.new) }
+        ensures none { IsNone result ↔ (self.old.discarded ≡ []) }
+        ensures same { IfNone result (self.new ≡ self.old) }
+        ensures fit { self.new.fit ≡ self.old.fit }
+        ensures room { self.new.taken.room ≡ self.old.taken.room }
+    {
+        self.store.discarded.pop()
     }
 
     /// Takes a copy out, to be spent. `None` exactly where it has none. From then on it isn't fit. It takes no memory.
@@ -257,14 +326,14 @@ impl Keeper {
         }
     }
 
-    /// The moment of the reduce's next check, while it has a group.
-    pub fn due(&self) -> Option<u64>
+    /// The moment of a reduce's next check, while it has a group, or that at which a host is to be ticked.
+    pub fn due<H: Hosts>(&self, hosts: &H, instance: u32) -> Option<u64>
         ensures made { (h : Record) (i : ℕ) (given : List NotedInput) → HasMade self.now h i given →
             IsDueBehind result h i given }
         ensures keeps { self.now.fit ≡ true → (h : Record) (i : ℕ) → Keeps self.now h i →
             IsDueBehind result h i [] }
     {
-        self.store.reduce.due()
+        self.store.maker.due(hosts, instance)
     }
 
     /// Ends a keeper that has no copy. It takes no memory.

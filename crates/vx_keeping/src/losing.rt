@@ -81,8 +81,19 @@ pub(crate) fn end_outputs(outputs: Vec<Output>)
     rest.destroy_empty();
 }
 
+// Ends a list of copies that has none.
+pub(crate) fn end_copies(copies: Vec<Finalizer>)
+    requires { copies.items ≡ [] }
+{
+    let mut rest = copies;
+    match rest.pop() {
+        None => rest.destroy_empty(),
+        Some(_) => unreachable!(),
+    }
+}
+
 // Ends a parcel that has no copies.
-fn end_parcel(parcel: Parcel)
+pub(crate) fn end_parcel(parcel: Parcel)
     requires { parcel.finalizers ≡ [] }
 {
     let Parcel {

@@ -6,24 +6,23 @@ use Rattle.std.proofs.lemmas.Bool.Decides.{nat_tests}
 use Rattle.vx_ends.specs.Observation.{Observation}
 use Rattle.vx_ends.specs.declared.position.Position.{Position}
 use Rattle.vx_value.specs.Texts.{is_empty}
-use Rattle.vx_condition.specs.Steps.{Test}
 use Rattle.vx_plan.specs.declared.component.Component.{Component}
 use Rattle.vx_plan.specs.declared.settings.Settings.{Settings}
-use Rattle.vx_plan.specs.declared.settings.Settings.TheVariants.{Reduce}
+use Rattle.vx_plan.specs.declared.settings.Settings.TheVariants.{Reduce, Host}
 use Rattle.vx_plan.specs.Components.{is_transform}
 use Rattle.vx_plan.specs.Options.{has_device}
 use Rattle.vx_pick.specs.declared.picker.Picker.{Picker}
 use Rattle.vx_pick.specs.Picks.{Picks}
 use Rattle.vx_record.specs.declared.entry.Entry.{Entry}
-use Rattle.vx_record.specs.declared.entry.Entry.TheVariants.{Lease, Home, Take, Tick, Answer}
+use Rattle.vx_record.specs.declared.entry.Entry.TheVariants.{Lease, Home, Take, Tick, Answer, Spent, Notice}
 use Rattle.vx_record.specs.Records.{Record}
 use Rattle.vx_record.specs.Additions.{OnlyAdds}
-use Rattle.vx_record.specs.Answering.{MayAnswer, MayFlush}
+use Rattle.vx_record.specs.Answering.{MayFlush}
 use Rattle.vx_record.specs.Inputs.{unanswered}
 use Rattle.vx_record.specs.Installs.{component_of, device_at, is_closed, transform_at}
 use Rattle.vx_record.specs.Legal.{Follows, IsLegal}
 use Rattle.vx_record.specs.Lists.{buffered, held}
-use Rattle.vx_record.specs.Makers.{IsBy, IsFor}
+use Rattle.vx_record.specs.Makers.{IsFor}
 use Rattle.vx_record.specs.Owing.{last_discarded, owes, owes_answer, owes_birth, owes_discards, owes_spends_in, took_since}
 use Rattle.vx_record.specs.Places.Place.{Held}
 use Rattle.vx_record.specs.Ready.{is_flush_due}
@@ -31,7 +30,6 @@ use Rattle.vx_record.specs.Routing.{is_ending}
 use Rattle.vx_record.specs.Shifts.{at}
 use Rattle.vx_record.specs.Starting.{MayLease}
 use Rattle.vx_record.specs.Tasks.{out_to}
-use Rattle.vx_record.specs.Transforms.{Rule, RunsBy, Discards, judges, reduces, is_free, rule_of}
 use Rattle.vx_record.specs.Turns.{is_out, since_lease}
 use Rattle.vx_record.proofs.Adding.{adds_both, adds_narrower, adds_none, adds_one, adds_wider, carry}
 use Rattle.vx_record.proofs.Lasting.{leased_unclosed}
@@ -54,7 +52,7 @@ use Rattle.vx_moves.specs.declared.engine.EngineState.{EngineState}
 use Rattle.vx_moves.specs.declared.run.Run.{Run}
 use Rattle.vx_moves.specs.Leasing.{HasLent}
 use Rattle.vx_moves.specs.Leaving.{Leaves}
-use Rattle.vx_moves.specs.Merging.{IsMergeOf, MayMerge}
+use Rattle.vx_moves.specs.Merging.{HasAnswered, HasFlushed, IsMergeOf, MayMerge}
 use Rattle.vx_moves.specs.Returns.{IsReturned}
 use Rattle.vx_moves.specs.Stands.{Stands, Steps}
 use Rattle.vx_moves.specs.Taking.{MayTakeNow}
@@ -64,18 +62,19 @@ use Rattle.vx_ready.specs.Asking.{IsServed}
 use Rattle.vx_ready.specs.Jobs.{IsLeasable}
 use Rattle.vx_ready.proofs.Checking.{given_none, taken_as, tick_at, unticked_at}
 use Rattle.vx_landing.specs.Landings.{IsOwingNow, OthersStay, Owes, owes_entries}
-use Rattle.vx_landing.specs.Merging.{ComesMerged, HasInputs, HasMerged, HasSameTask, HasTakenOne, HasTakenSome, HasWorked, HasWorkedWell, IsMergeStep, IsMerging, IsTaking}
+use Rattle.vx_landing.specs.Merging.{ComesMerged, HasInputs, HasMerged, HasSameTask, HasTakenOne, HasTakenSome, HasWorked, HasWorkedWell, IsByOrNotice, IsMergeStep, IsMerging, IsTaking}
 use Rattle.vx_landing.specs.Standing.{AwayIsWell, IsFed, IsFedAt, IsWell, LentWhileOut}
 use Rattle.vx_landing.proofs.Answering.{for_own, leaves_both}
 use Rattle.vx_landing.proofs.LandedEngine.{fed_flags, others_out, well_flags}
 use Rattle.vx_landing.proofs.Lending.{lent_capacity, capacity_lent}
-use Rattle.vx_landing.proofs.Owing.{OwesWorkEntries, work_entries_none, work_entries_on, entries_none, owes_none, owes_parts, settled_by}
+use Rattle.vx_landing.proofs.Owing.{OwesWorkEntries, discards_none, work_entries_none, work_entries_on, entries_none, owes_none, owes_parts, settled_by}
 use Rattle.vx_landing.proofs.States.{Beside, NowHas, NowOwes, beside, both_are, both_said, carried, each_flags, flags_returned, flags_then, others_both, others_one, owing_now}
 
 -- WHO MERGES
 -- it works with no port
 portless : (s : Settings) → is_joining s ≡ true → has_device s ≡ false
 portless (Reduce group_by starts_when ends_when expire flush strategies) is = refl
+portless Host is = refl
 portless other is = cc
 
 joins_portless : (h : Record) (i : ℕ) → joins_at h i ≡ true → device_at h i ≡ false
@@ -89,6 +88,7 @@ joins_portless h i joins = go (component_of h i) joins
 -- it picks no events
 no_pick : (s : Settings) (picker : Picker) → is_joining s ≡ true → Picks s picker → ⊥
 no_pick (Reduce group_by starts_when ends_when expire flush strategies) picker is picks = absurd picks
+no_pick Host picker is picks = absurd picks
 no_pick other picker is picks = absurd cc
 
 -- so its task keeps nothing that has to stand for what it answered
@@ -105,20 +105,6 @@ kept_joining (role.Transform picker) h k i joins come = absurd (go (component_of
     go (Some c) is picks = no_pick c.settings picker (and_parts (is_transform c) (is_joining c.settings) is).1 picks
 kept_joining role.Merge h k i joins come = tt
 kept_joining role.Unfit h k i joins come = tt
-
--- and its answers discard nothing
-reduce_discards : (s : Settings) (tests : List Test) (rule : Rule) (h : Record) (i : ℕ) (discarded : List ℕ) → is_joining s ≡ true →
-    rule_of s tests ≡ Some rule → Discards rule h i discarded → discarded ≡ []
-reduce_discards (Reduce group_by starts_when ends_when expire flush strategies) tests (judges judge) h i discarded is ruled none = cc
-reduce_discards (Reduce group_by starts_when ends_when expire flush strategies) tests (reduces s) h i discarded is ruled none = none
-reduce_discards (Reduce group_by starts_when ends_when expire flush strategies) tests is_free h i discarded is ruled none = cc
-reduce_discards other tests rule h i discarded is ruled none = cc
-
-joins_discard : (h : Record) (i : ℕ) (rule : Rule) (discarded : List ℕ) → joins_at h i ≡ true → RunsBy h i rule → Discards rule h i discarded → discarded ≡ []
-joins_discard h i rule discarded joins follows =
-    reduce_discards follows.component.settings follows.tests rule h i discarded
-    (and_parts (is_transform follows.component) (is_joining follows.component.settings)
-    (ap (λ (o : Option Component). elim o [ None ↦ false | Some c ↦ is_transform c && is_joining c.settings ]) (sym follows.runs) ∙ joins)).1 follows.ruled
 
 -- WHAT IT WAS GIVEN
 -- where nothing is to be answered, it took nothing since its last answer
@@ -186,6 +172,7 @@ module _ {P : Type 0} {observe : P → Observation} {i now : ℕ} where
       out = was.out;
       moment = was.moment;
       only_takes = rw (itself i) was.only_takes;
+      spent = unspent_less old.log (Take i s copies) (last_discarded old.log i) was.spent;
     });
     one = rw steps.noted (omega arith);
     inputs = rw steps.noted (taken_in old.log i s copies);
@@ -219,13 +206,12 @@ module _ {P : Type 0} {observe : P → Observation} {i now : ℕ} where
     size = one.size ∙ before.size;
   }
 
-  pub may_merge : {engine : EngineState P} → Stands observe engine → IsMerging engine.log i now → at engine.log (Held i) ≢ [] → MayMerge engine.log i now
-  may_merge {engine} stands merging holds = record {
+  pub may_merge : {engine : EngineState P} → Stands observe engine → IsMerging engine.log i now → MayMerge engine.log i now
+  may_merge {engine} stands merging = record {
     joins = merging.joins;
     going = merging.going;
     out = merging.out;
     moment = merging.moment;
-    holds = holds;
     unticked = unticked_at i stands merging.joins;
   }
 
@@ -246,6 +232,8 @@ merging_on i now = carry (IsMergeOf i) (λ h. IsMerging h i now) step
     step : (h : Record) (e : Entry) → Follows h e → IsMergeOf i h e → IsMerging h i now → IsMerging (e ∷ h) i now
     step h (Tick j moment) follows kind is = record { joins = is.joins; going = is.going; out = is.out; moment = is.moment }
     step h (Answer j outputs discarded kept) follows kind is = record { joins = is.joins; going = is.going; out = is.out; moment = is.moment }
+    step h (Spent j c outcome) follows kind is = record { joins = is.joins; going = is.going; out = is.out; moment = is.moment }
+    step h (Notice b status) follows kind is = record { joins = is.joins; going = is.going; out = is.out; moment = is.moment }
     step h e follows kind is = absurd kind
 
 pub some_there : {A : Type 0} (xs : List A) → is_empty xs ≡ false → xs ≢ []
@@ -270,26 +258,41 @@ flush_may h i legal due =
       record { ending = parts.0; drained = none_there (buffered h i) parts.1; emptied = refl },
     )
 
+-- behind what it answered nothing that it discarded is owed
+pub answer_spent : (i : ℕ) (old new : Record) {E : Type 0} (r : Result (Unit {0}) E) → OnOk r (HasAnswered i old new) → OnOk r (owes_discards new i ≡ false)
+answer_spent i old new (Ok x) noted = discards_none new i noted.spent
+answer_spent i old new (Err e) noted = tt
+
+pub flush_spent : (i : ℕ) (old new : Record) {E : Type 0} (r : Result (Unit {0}) E) → OnOk r (HasFlushed i old new) → OnOk r (owes_discards new i ≡ false)
+flush_spent i old new (Ok x) noted = discards_none new i noted.spent
+flush_spent i old new (Err e) noted = tt
+
 -- WHAT ITS WORK LEAVES
 merge_step : (i : ℕ) (h : Record) (e : Entry) → IsMergeOf i h e → IsMergeStep i h e
 merge_step i h (Tick j now) is = is
 merge_step i h (Answer j outputs discarded kept) is = is
+merge_step i h (Spent j c outcome) is = is
+merge_step i h (Notice b status) is = is
 merge_step i h e is = absurd is
 
 step_for : (i : ℕ) (h : Record) (e : Entry) → IsMergeStep i h e → IsFor i h e
 step_for i h (Take j s copies) is = for_own (Take j s copies) i h (ap (λ (n : ℕ). Some n) is)
 step_for i h (Tick j now) is = for_own (Tick j now) i h (ap (λ (n : ℕ). Some n) is)
 step_for i h (Answer j outputs discarded kept) is = for_own (Answer j outputs discarded kept) i h (ap (λ (n : ℕ). Some n) is)
+step_for i h (Spent j c outcome) is = for_own (Spent j c outcome) i h (ap (λ (n : ℕ). Some n) is.0)
+step_for i h (Notice b status) is = λ k of. cc
 step_for i h e is = absurd is
 
 comes_step : (i : ℕ) (h : Record) (e : Entry) → IsMergeStep i h e → ComesMerged i h e
 comes_step i h (Home j) is = absurd is
 comes_step i h e is = is
 
-step_by : (i worker : ℕ) (h : Record) (e : Entry) → Follows h e → IsMergeStep i h e → out_to h i ≡ Some worker → IsBy worker h e × (out_to (e ∷ h) i ≡ Some worker)
+step_by : (i worker : ℕ) (h : Record) (e : Entry) → Follows h e → IsMergeStep i h e → out_to h i ≡ Some worker → IsByOrNotice worker h e × (out_to (e ∷ h) i ≡ Some worker)
 step_by i worker h (Take j s copies) follows same out = (rw same out, out)
 step_by i worker h (Tick j now) follows same out = (rw same out, out)
 step_by i worker h (Answer j outputs discarded kept) follows same out = (rw same out, out)
+step_by i worker h (Spent j c outcome) follows same out = (rw same.0 out, out)
+step_by i worker h (Notice b status) follows same out = (tt, out)
 step_by i worker h e follows same out = absurd same
 
 -- what the steps of a take and an answer add
@@ -366,7 +369,6 @@ pub record Goes {P : Type 0} (observe : P → Observation) (i worker : ℕ) (tas
   pub joins : joins_at h i ≡ true
   pub to : out_to h i ≡ Some worker
   pub work_entries : OwesWorkEntries h i
-  pub discards : owes_discards h i ≡ false
   pub unleased : IsTaskOf observe h i task
   pub unclosed : is_closed h i ≡ false
 
@@ -380,7 +382,6 @@ goes_on observe i worker task h (Take j s copies) follows same was = record {
   joins = was.joins;
   to = was.to;
   work_entries = work_entries_on h (Take j s copies) i refl refl refl was.work_entries;
-  discards = unspent_less h (Take j s copies) (last_discarded h i) was.discards;
   unleased = muted observe i task h (Take j s copies) tt was.unleased;
   unclosed = was.unclosed;
 }
@@ -388,7 +389,6 @@ goes_on observe i worker task h (Tick j now) follows same was = record {
   joins = was.joins;
   to = was.to;
   work_entries = work_entries_on h (Tick j now) i refl refl refl was.work_entries;
-  discards = unspent_less h (Tick j now) (last_discarded h i) was.discards;
   unleased = muted observe i task h (Tick j now) tt was.unleased;
   unclosed = was.unclosed;
 }
@@ -396,11 +396,21 @@ goes_on observe i worker task h (Answer j outputs discarded kept) follows same w
   joins = was.joins;
   to = was.to;
   work_entries = work_entries_on h (Answer j outputs discarded kept) i refl refl refl was.work_entries;
-  discards =
-      let row : MayAnswer h j outputs discarded kept = follows.row in
-      let none : discarded ≡ [] = joins_discard h j row.rule discarded (rw same was.joins) row.follows row.refused in
-      rw (same, itself i, none) refl;
   unleased = muted observe i task h (Answer j outputs discarded kept) tt was.unleased;
+  unclosed = was.unclosed;
+}
+goes_on observe i worker task h (Spent j c outcome) follows same was = record {
+  joins = was.joins;
+  to = was.to;
+  work_entries = work_entries_on h (Spent j c outcome) i refl refl refl was.work_entries;
+  unleased = muted observe i task h (Spent j c outcome) tt was.unleased;
+  unclosed = was.unclosed;
+}
+goes_on observe i worker task h (Notice b status) follows same was = record {
+  joins = was.joins;
+  to = was.to;
+  work_entries = work_entries_on h (Notice b status) i refl refl refl was.work_entries;
+  unleased = muted observe i task h (Notice b status) tt was.unleased;
   unclosed = was.unclosed;
 }
 goes_on observe i worker task h e follows same was = absurd same
@@ -425,10 +435,11 @@ left_fit observe h i task (Some was) (Some is) left known fed =
     let unleased : HasUnleasedTask observe was.facts h i task = rw left.had at known.unleased in
     record { fed = left.flags.starved ∙ fed; fit = λ counted. unleased.fit (sym left.flags.behind ∙ counted) }
 
--- what it owes once it answered all that it was given
-settled_all : {P : Type 0} {observe : P → Observation} {i worker : ℕ} {task : Task P} (h : Record) → Goes observe i worker task h → unanswered h i ≡ [] → owes h i ≡ false
-settled_all {i = i} h goes none =
-    owes_none h i (entries_none h i goes.work_entries goes.discards) (and_right (transform_at h i) (took_since h i) (taken_none h i none))
+-- what it owes once it answered all that it was given, and spent what it discarded
+settled_all : {P : Type 0} {observe : P → Observation} {i worker : ℕ} {task : Task P} (h : Record) → Goes observe i worker task h → unanswered h i ≡ [] → owes_discards h i ≡ false →
+    owes h i ≡ false
+settled_all {i = i} h goes none spent =
+    owes_none h i (entries_none h i goes.work_entries spent) (and_right (transform_at h i) (took_since h i) (taken_none h i none))
 
 -- THE LEASE
 -- what may be leased owes nothing
@@ -436,6 +447,12 @@ owes_parts_at : {P : Type 0} {observe : P → Observation} {i now : ℕ} {old : 
     (owes_entries old.log i ≡ false) × (owes_answer old.log i ≡ false)
 owes_parts_at {i = i} {old = old} stands leasable latest =
     let later = stands.run.later 0 in owes_parts old.log i (leasable.may 0 (omega (arith, later, latest))).settled
+
+-- nothing of what it discarded either
+discards_spent_at : {P : Type 0} {observe : P → Observation} {i now : ℕ} {old : EngineState P} → Stands observe old → IsLeasable old i now → old.run.latest ≤ now →
+    owes_discards old.log i ≡ false
+discards_spent_at {i = i} {old = old} stands leasable latest =
+    let h = old.log in (or_parts (owes_birth h i || owes_spends_in h h i) (owes_discards h i) (owes_parts_at stands leasable latest).0).1
 
 module _ {P : Type 0} {observe : P → Observation} {i worker now : ℕ} {old : EngineState P} (stands : Stands observe old) (leasable : IsLeasable old i now)
     (latest : old.run.latest ≤ now) (joins : joins_at old.log i ≡ true) where
@@ -450,6 +467,7 @@ module _ {P : Type 0} {observe : P → Observation} {i worker now : ℕ} {old : 
       out = rw (itself i) refl;
       moment = rw (itself i) refl;
       only_takes = rw (itself i) refl;
+      spent = unspent_less old.log (Lease i worker now 0) (last_discarded old.log i) (discards_spent_at stands leasable latest);
     })
 
     pub fresh_first : length (since_lease mid.log i) ≡ 0
@@ -467,7 +485,6 @@ module _ {P : Type 0} {observe : P → Observation} {i worker now : ℕ} {old : 
           joins = joins;
           to = rw (itself i) refl;
           work_entries = work_entries_on h e i refl refl refl (work_entries_none h i none.0);
-          discards = unspent_less h e (last_discarded h i) (or_parts (owes_birth h i || owes_spends_in h h i) (owes_discards h i) none.0).1;
           unleased = rw lent.steps.noted at lent.unleased;
           unclosed = leased_unclosed h i worker now 0 (rw lent.steps.noted at lent.steps.stands.legal);
         })
@@ -492,7 +509,7 @@ module _ {P : Type 0} {observe : P → Observation} {i worker now : ℕ} {old : 
           (λ was is so fits. record {
             fed = so.starved ∙ fits.fed;
             fit = λ counted. fits.fit (sym so.behind ∙ counted);
-            settled = λ known. settled_all four.log goes_last well.answered;
+            settled = λ known. settled_all four.log goes_last well.answered well.spent;
           })
       fit_last (Err e) well owing = carried Owes (IsFitBack task) (IsBackFit task four.log i) (slice_get mid.states i) (slice_get four.states i)
           (both_are Owes (slice_get mid.states i) (slice_get four.states i) owing.one) fit_first
@@ -540,12 +557,12 @@ module _ {P : Type 0} {observe : P → Observation} {i worker now : ℕ} {old : 
             let second = adds_both (IsFor i) old.log mid.log four.log first (adds_wider (IsMergeStep i) (IsFor i) (step_for i) mid.log four.log worked.only) in
             adds_one (IsFor i) old.log four.log new.log (Home i) second steps.follows (for_own (Home i) i four.log refl) steps.noted
 
-        made : OnlyAdds (IsBy worker) old.log new.log
+        made : OnlyAdds (IsByOrNotice worker) old.log new.log
         made =
-            let first = adds_one (IsBy worker) old.log old.log mid.log (Lease i worker now 0) (adds_none (IsBy worker) old.log old.log refl) lent.steps.follows refl lent.steps.noted in
-            let second = adds_both (IsBy worker) old.log mid.log four.log first
-            (adds_narrower (IsMergeStep i) (IsBy worker) (λ h. out_to h i ≡ Some worker) (step_by i worker) mid.log four.log worked.only goes_first.to) in
-            adds_one (IsBy worker) old.log four.log new.log (Home i) second steps.follows goes_last.to steps.noted
+            let first = adds_one (IsByOrNotice worker) old.log old.log mid.log (Lease i worker now 0) (adds_none (IsByOrNotice worker) old.log old.log refl) lent.steps.follows refl lent.steps.noted in
+            let second = adds_both (IsByOrNotice worker) old.log mid.log four.log first
+            (adds_narrower (IsMergeStep i) (IsByOrNotice worker) (λ h. out_to h i ≡ Some worker) (step_by i worker) mid.log four.log worked.only goes_first.to) in
+            adds_one (IsByOrNotice worker) old.log four.log new.log (Home i) second steps.follows goes_last.to steps.noted
 
         noted : OnlyAdds (ComesMerged i) (Lease i worker now 0 ∷ old.log) new.log
         noted =

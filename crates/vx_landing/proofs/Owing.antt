@@ -41,6 +41,7 @@ use Rattle.vx_record.proofs.Further.{numbers_bounded}
 use Rattle.vx_record.proofs.Promises.{discarded_held}
 use Rattle.vx_record.proofs.Shifting.{stands_at}
 use Rattle.vx_record.proofs.Untried.{owed_spent}
+use Rattle.vx_keeping.specs.Keeping.{OwesOnly}
 use Rattle.vx_counts.proofs.Once.{itself}
 use Rattle.vx_moves.specs.Creating.{IsBirthShort}
 use Rattle.vx_moves.specs.Returns.{AreSettled}
@@ -258,6 +259,13 @@ none_unspent whole [] each = refl
 none_unspent whole (x ∷ xs) each =
     let some = each x (rw (itself x) (omega arith)) in
     or_from (times_spent whole x == 0) (unspent_of whole xs) (ne_eqb (times_spent whole x) 0 (λ none. omega (arith, some, none))) (none_unspent whole xs (λ c l. each c (omega (arith, l))))
+
+-- so it is of what the last answer discarded, of which nothing is left
+pub discards_none : (h : Record) (i : ℕ) → OwesOnly h i [] → owes_discards h i ≡ false
+discards_none h i owed = none_unspent h (last_discarded h i) (λ c some. elim (cases_lt 0 (times_spent h c)) [
+  | inl spent ↦ spent
+  | inr few ↦ let left : 0 < count c [] = owed c some (omega (arith, few)) in absurd (omega (arith, left))
+])
 
 each_unspent : (whole : Record) (parcels : List (List ℕ)) → ((c : ℕ) → 0 < count c (joined parcels) → 0 < times_spent whole c) →
     list_any (unspent_of whole) parcels ≡ false

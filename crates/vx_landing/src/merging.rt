@@ -2,6 +2,7 @@
 ghost use Rattle.std.specs.Prelude.{◌≡◌, ◌<◌, ◌≤◌, [], length, true, false, IfErr, OnErr, OnOk};
 ghost use Rattle.vx_record.specs.Additions.{OnlyAdds};
 ghost use Rattle.vx_record.specs.Inputs.{unanswered};
+ghost use Rattle.vx_record.specs.Owing.{owes_discards};
 ghost use Rattle.vx_record.specs.Turns.{since_lease};
 ghost use Rattle.vx_ledger.specs.declared.short.Short.TheVariants.{WantOfMemory as NoMemory};
 ghost use Rattle.vx_tasks.specs.Joining.{joins_at};
@@ -16,6 +17,7 @@ ghost use Rattle.vx_landing.specs.Standing.{AwayIsWell, IsWell, LentWhileOut};
 
 use std::alloc::Global;
 use vx_ends::Port;
+use vx_keeping::Hosts;
 use vx_ledger::Short;
 use vx_moves::EngineState;
 use vx_ready::{is_check_due, must_flush};
@@ -26,12 +28,13 @@ const TAKES: u32 = 64;
 
 /// Has an instance that merges do what there is to do at a moment, in milliseconds, in the name of a worker. It is leased, takes what
 /// is buffered, and answers that; then it puts out all that it holds if nothing more can come, or acts by itself if its check is due.
-/// Then it is unleased again, with the task that it had.
+/// What it discards is spent. Then it is unleased again, with the task that it had.
 ///
 /// For want of memory it answers nothing, and what it owes isn't known any more.
-pub fn merge<P: Port>(
+pub fn merge<P: Port, H: Hosts>(
     engine: &mut EngineState<P>,
     alloc: Global,
+    hosts: &mut H,
     i: u32,
     worker: u32,
     now: u64,
@@ -50,13 +53,19 @@ pub fn merge<P: Port>(
     ensures short { IfErr result (λ short. short ≡ NoMemory) }
 {
     let (task, _positions) = engine.lease(i, worker, now);
-    let worked = work(engine, alloc, i, now);
+    let worked = work(engine, alloc, hosts, i, now);
     engine.return_task(i, task);
     worked
 }
 
 // Has an instance do what there is to do that was leased at a moment. For want of memory what it owes isn't known any more.
-fn work<P: Port>(engine: &mut EngineState<P>, alloc: Global, i: u32, now: u64) -> Result<(), Short>
+fn work<P: Port, H: Hosts>(
+    engine: &mut EngineState<P>,
+    alloc: Global,
+    hosts: &mut H,
+    i: u32,
+    now: u64,
+) -> Result<(), Short>
     requires stands { Stands P.observed engine.old }
     requires served { IsServed engine.old }
     requires within { i < length engine.old.states }
@@ -69,7 +78,7 @@ fn work<P: Port>(engine: &mut EngineState<P>, alloc: Global, i: u32, now: u64) -
     ensures short { IfErr result (λ short. short ≡ NoMemory) }
 {
     let took = take_inputs(engine, i, now);
-    match answer(engine, alloc, i, now, took) {
+    match answer(engine, alloc, hosts, i, now, took) {
         Ok(()) => Ok(()),
         Err(WantOfMemory) => {
             engine.states.owed(i);
@@ -123,10 +132,11 @@ fn take_input<P: Port>(engine: &mut EngineState<P>, i: u32, now: u64) -> bool
 }
 
 // Answers what was taken, if anything was. Then it puts out all that it holds if nothing more can come, or acts by itself if its check
-// is due.
-fn answer<P: Port>(
+// is due. What it discards is spent.
+fn answer<P: Port, H: Hosts>(
     engine: &mut EngineState<P>,
     alloc: Global,
+    hosts: &mut H,
     i: u32,
     now: u64,
     took: bool,
@@ -140,23 +150,25 @@ fn answer<P: Port>(
     ensures stands { Stands P.observed engine.new }
     ensures only { OnlyAdds (IsMergeOf i) engine.old.log engine.new.log }
     ensures answered { OnOk result (unanswered engine.new.log i ≡ []) }
+    ensures spent { OnOk result (owes_discards engine.new.log i ≡ false) }
     ensures leaves { Leaves engine.old engine.new }
     ensures size { length engine.new.states ≡ length engine.old.states }
 {
     if !took {
-        return act(engine, alloc, i, now);
+        return act(engine, alloc, hosts, i, now);
     }
-    match engine.merge_taken(alloc, i, now) {
-        Ok(()) => act(engine, alloc, i, now),
+    match engine.merge_taken(alloc, hosts, i, now) {
+        Ok(()) => act(engine, alloc, hosts, i, now),
         Err(WantOfMemory) => Err(WantOfMemory),
     }
 }
 
 // Has an instance that answered all that it took put out all that it holds if nothing more can come, or act by itself if its check is
-// due.
-fn act<P: Port>(
+// due. What it discards is spent.
+fn act<P: Port, H: Hosts>(
     engine: &mut EngineState<P>,
     alloc: Global,
+    hosts: &mut H,
     i: u32,
     now: u64,
 ) -> Result<(), WantOfMemory>
@@ -165,20 +177,19 @@ fn act<P: Port>(
     requires within { i < length engine.old.states }
     requires merging { IsMerging engine.old.log i now }
     requires none { unanswered engine.old.log i ≡ [] }
+    requires spent { owes_discards engine.old.log i ≡ false }
     ensures stands { Stands P.observed engine.new }
     ensures only { OnlyAdds (IsMergeOf i) engine.old.log engine.new.log }
     ensures answered { OnOk result (unanswered engine.new.log i ≡ []) }
+    ensures spent { OnOk result (owes_discards engine.new.log i ≡ false) }
     ensures leaves { Leaves engine.old engine.new }
     ensures size { length engine.new.states ≡ length engine.old.states }
 {
-    if engine.keeps_none(i) {
-        return Ok(());
-    }
     if must_flush(engine, i) {
-        return engine.merge_flush(alloc, i, now);
+        return engine.merge_flush(alloc, hosts, i, now);
     }
-    if is_check_due(engine, i, now) {
-        return engine.merge_tick(alloc, i, now);
+    if is_check_due(engine, hosts, i, now) {
+        return engine.merge_tick(alloc, hosts, i, now);
     }
     Ok(())
 }

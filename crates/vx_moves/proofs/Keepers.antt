@@ -31,7 +31,7 @@ pub stays_kept : (o : Option Kept) (h : Record) (i : ℕ) (e : Entry) → IsLega
 stays_kept None h i e legal spares kept = tt
 stays_kept (Some k) h i e legal spares kept =
     let both = leaves_it h i e spares in
-    record { keeps = keeps_stays k h i e legal both.0 kept.keeps; unticked = ticks_stay h i e both.1 kept.unticked }
+    record { keeps = keeps_stays k h i e legal both.0 kept.keeps; cleared = kept.cleared; unticked = ticks_stay h i e both.1 kept.unticked }
 
 -- and so is each
 pub kept_behind : (slots : List (Option Kept)) (h : Record) (e : Entry) → IsLegal (e ∷ h) → SparesKept h e → AreWhose slots h → AreKept slots h → AreKept slots (e ∷ h)

@@ -7,4 +7,6 @@ pub mod Keepers
 pub mod Stepping
 pub mod Outlets
 pub mod Merging
+pub mod Losing
 pub mod GivingUp
+pub mod Discarding

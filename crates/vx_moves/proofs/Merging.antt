@@ -1,40 +1,42 @@
 -- What a keeper made, and how it becomes an answer.
 use Rattle.std.proofs.Common.{◌≡◌, ◌∙◌, ◌≢◌, ◌≤◌, ℕ, Bool, true, false, is_some, List, [], ◌∷◌, ◌++◌, Option, Some, None, IfSome, length, inl, inr, refl, sym, ap, subst, arith}
-use Rattle.std.specs.Prelude.{IsSomeAnd, ◌==◌, ◌&&◌, ◌↔◌, Result, Ok, Err, OnErr}
+use Rattle.std.specs.Prelude.{IsSomeAnd, ◌==◌, ◌&&◌, ◌<◌, ◌↔◌, Result, Ok, Err, OnErr, count_by}
 use Rattle.std.specs.Global.{Vec}
-use Rattle.std.proofs.lemmas.Bool.{cases_eq}
+use Rattle.std.proofs.lemmas.Bool.{cases_eq, cases_lt, or_from}
 use Rattle.std.proofs.lemmas.Bool.Decides.{nat_tests}
 use Rattle.std.proofs.lemmas.List.{length-map}
 use Rattle.vx_ends.specs.Observation.{Observation}
 use Rattle.vx_value.specs.Texts.{is_empty}
-use Rattle.vx_ledger.specs.Copies.{numbers_of}
+use Rattle.vx_ledger.specs.Copies.{Copy, numbers_of}
 use Rattle.vx_ledger.specs.declared.parcel.Parcel.{Parcel}
 use Rattle.vx_plan.specs.declared.class.Class.{Class}
 use Rattle.vx_plan.specs.declared.class.Class.TheVariants.{Source, Transform, Sink}
 use Rattle.vx_plan.specs.declared.component.Component.{Component}
 use Rattle.vx_plan.specs.Components.{is_transform, is_sink}
+use Rattle.vx_plan.specs.declared.settings.Settings.{Settings}
+use Rattle.vx_plan.specs.declared.settings.Settings.TheVariants as settings
 use Rattle.vx_transform.specs.declared.output.Output.{Output}
-use Rattle.vx_condition.specs.Steps.{ticks}
+use Rattle.vx_condition.specs.Steps.{ticks, Test}
 use Rattle.vx_record.specs.declared.entry.Entry.{Entry}
 use Rattle.vx_record.specs.declared.entry.Entry.TheVariants.{Take, Tick, Answer}
-use Rattle.vx_record.specs.declared.output.Output.{Output as NotedOutput}
 use Rattle.vx_record.specs.Records.{Record}
-use Rattle.vx_record.specs.Additions.{OnlyAdds}
 use Rattle.vx_record.specs.Answering.{MayAnswer, MayFlush}
-use Rattle.vx_record.specs.Copies.{count, joined}
-use Rattle.vx_record.specs.Inputs.{Input, flush, has_tick, to_answer, unanswered, ticks_wait}
+use Rattle.vx_record.specs.Copies.{count, joined, times_spent}
+use Rattle.vx_record.specs.Inputs.{Input, flush, has_tick, to_answer, unanswered, ticks_wait, steps}
 use Rattle.vx_record.specs.Legal.{IsLegal}
 use Rattle.vx_record.specs.Installs.{component_of, sink_at}
+use Rattle.vx_record.specs.Lists.{without}
+use Rattle.vx_record.specs.Owing.{last_discarded, owes_discards, unspent_of}
+use Rattle.vx_record.specs.Places.{put_out}
 use Rattle.vx_record.specs.Places.Place.{Contents, Held}
 use Rattle.vx_record.specs.SinkBatches.{is_full_batch}
 use Rattle.vx_record.specs.Spending.{oldest}
 use Rattle.vx_record.specs.Stages.{first_filled}
 use Rattle.vx_record.specs.Shifts.{at}
-use Rattle.vx_record.specs.Transforms.{IsTickDue}
-use Rattle.vx_record.specs.Turns.{lease_now}
+use Rattle.vx_record.specs.Tallies.{is_first}
+use Rattle.vx_record.specs.Transforms.{Rule, judges, reduces, is_free, rule_of, RunsBy, IsDue, IsTickDue}
+use Rattle.vx_record.specs.Turns.{is_out, lease_now}
 use Rattle.vx_tasks.specs.Joining.{is_joining, joins_at}
-use Rattle.vx_record.proofs.Adding.{adds_none, adds_one}
-use Rattle.vx_record.proofs.Answers.{answer_holds}
 use Rattle.vx_record.proofs.Shifting.{stands_at}
 use Rattle.vx_balance.proofs.Steps.{aside_kept}
 use Rattle.vx_places.specs.declared.row.Row.{Row}
@@ -47,18 +49,19 @@ use Rattle.vx_places.proofs.Steps.{same_holds, still_shifts, taken_known}
 use Rattle.vx_instances.specs.declared.state.InstanceState.{InstanceState}
 use Rattle.vx_instances.specs.Knowing.{Knows}
 use Rattle.vx_instances.proofs.Aside.{aside_known}
-use Rattle.vx_keeping.specs.Answers.{notes_of, kept_behind, IsDueBehind, MayBeNoted}
-use Rattle.vx_keeping.specs.Kept.{Kept}
-use Rattle.vx_keeping.specs.Keeping.{taken_in, Accounts, Keeps, HasMade}
-use Rattle.vx_keeping.proofs.Accounting.{held_none}
+use Rattle.vx_keeping.specs.Answers.{notes_of, kept_behind, IsDueBehind, MayBeNoted, Runs}
+use Rattle.vx_keeping.specs.Kept.{Kept, HoldsNone}
+use Rattle.vx_keeping.specs.Keeping.{taken_in, Accounts, Keeps, HasMade, OwesOnly, RunsHost}
+use Rattle.vx_keeping.proofs.Accounting.{if_self}
 use Rattle.vx_keeping.proofs.Going.{made_keeps, none_taken}
 use Rattle.vx_keeping.proofs.Resting.{ticks_stay}
-use Rattle.vx_keeping.proofs.Answering.{tick_is_due, no_tick_before, to_answer_tick, made_may_be_noted, kept_nothing, may_answer_made}
+use Rattle.vx_keeping.proofs.Answering.{tick_is_due, no_tick_before, to_answer_tick, made_may_be_noted, kept_nothing}
+use Rattle.vx_keeping.proofs.Ruling.{host_rule}
 use Rattle.vx_keeping.proofs.Others.{outputs_known}
 use Rattle.vx_moves.specs.declared.engine.EngineState.{EngineState}
 use Rattle.vx_moves.proofs.Keepers.{stays_kept}
 use Rattle.vx_moves.specs.Keepers.{keeper_at, IsKept, AreKept, AreKeepers, StandApart, IsKeeper, CanAnswer, Rests, ChecksAt, ChecksOnly, OneKeeper, StaysFit, GetsUnfit, TakesIn, AnswersTaken, Ticks, Flushes, FailsShort, PutsOut}
-use Rattle.vx_moves.specs.Merging.{AreMade, StandsMade, MayMerge, MayNoteMade, IsMergeOf, HasAnswered, HasFlushed}
+use Rattle.vx_moves.specs.Merging.{AreMade, StandsMade, IsDiscarding, AreDiscarding, StandsDiscarding, MayMerge, MayNoteMade, answer_of, discarded_of}
 use Rattle.vx_moves.specs.Capacities.{AreCapacities}
 use Rattle.vx_moves.specs.Stands.{KeptUnleased, StandsBy, Stands, Steps}
 use Rattle.vx_moves.specs.Taking.{MayTakeNow}
@@ -126,7 +129,7 @@ module _ {P : Type 0} {observe : P → Observation} {old : EngineState P} {slots
       let here : IfSome (keeper_at slots.items i) (λ k. IsKept k old.log i) =
       some_if (λ k. IsKept k old.log i) (keeper_at slots.items i)
       (one_is FailsShort (λ k. Accounts k old.log i × (ticks_wait old.log i ≡ false)) (λ k. IsKept k old.log i) (keeper_at old.keepers.items i) (keeper_at slots.items i) one.one accounts
-      (λ was is fails had. record { keeps = fails.keeps old.log i had.0; unticked = had.1 })) in
+      (λ was is fails had. record { keeps = fails.keeps old.log i had.0; cleared = λ fit. never_both fails.gets.unfit fit; unticked = had.1 })) in
       let keeps : AreKept slots.items old.log = λ j. elim (cases_eq j i) [
         | inl same ↦ rw same here
         | inr other ↦ rw (one.others j other) (others j other)
@@ -171,8 +174,8 @@ module _ {P : Type 0} {observe : P → Observation} {old : EngineState P} (i : �
           subst (HasMade k (Tick i now ∷ old.log) i) (sym all) (made_keeps k old.log i (Tick i now) (record { step = ticks now; copies = [] } ∷ []) legal tt is)
 
 -- THE ANSWER
-pub unanswered_none : (h : Record) (i : ℕ) (outputs : List Output) (kept : List ℕ) → unanswered (Answer i (notes_of outputs) [] kept ∷ h) i ≡ []
-unanswered_none h i outputs kept = let self : (i == i) ≡ true = grind (arith, nat_tests) in rw self refl
+pub unanswered_none : (h : Record) (i : ℕ) (outputs : List Output) (discarded kept : List ℕ) → unanswered (Answer i (notes_of outputs) discarded kept ∷ h) i ≡ []
+unanswered_none h i outputs discarded kept = if_self i [] (unanswered h i)
 
 -- outputs are those of an entry that has them so
 noted_so : (outputs : List Output) → AreNoted outputs (notes_of outputs)
@@ -182,6 +185,43 @@ noted_so (output ∷ rest) = (refl, refl, noted_so rest)
 pub the_one : (F : Kept → Type 0) (o : Option Kept) → IsSomeAnd o F → (k : Kept) × ((o ≡ Some k) × F k)
 the_one F None is = absurd is
 the_one F (Some k) is = (k, (refl, is))
+
+-- where what the last answer discarded is spent, the next one may follow
+not_zero : (n : ℕ) → (n ≡ 0 → ⊥) → (n == 0) ≡ false
+not_zero n some = elim (cases_lt 0 n) [ inl more ↦ grind (arith, nat_tests, more) | inr none ↦ absurd (some (omega (arith, none))) ]
+
+none_unspent : (h : Record) (copies : List ℕ) → ((c : ℕ) → 0 < count c copies → times_spent h c ≡ 0 → ⊥) → unspent_of h copies ≡ false
+none_unspent h [] spent = refl
+none_unspent h (c ∷ cs) spent =
+    let here : 0 < count c (c ∷ cs) = let one = if_self {X = ℕ} c 1 0 in omega (arith, one) in
+    or_from (times_spent h c == 0) (unspent_of h cs) (not_zero (times_spent h c) (spent c here)) (none_unspent h cs (λ d some. spent d (omega (arith, some))))
+
+none_owed : (h : Record) (i : ℕ) → OwesOnly h i [] → owes_discards h i ≡ false
+none_owed h i owed = none_unspent h (last_discarded h i) (λ c some unspent. let none = owed c some unspent in absurd (omega (arith, none)))
+
+-- the rule by which an instance answers that merges
+rule_of_runs : (h : Record) (i : ℕ) → Runs h i → (rule : Rule) × RunsBy h i rule
+rule_of_runs h i (inl reducing) = (reduces reducing.0, reducing.1)
+rule_of_runs h i (inr host) = (is_free, host_rule h i host)
+
+-- what a keeper made may be noted, also where its instance holds nothing
+may_answer_by : (k : Kept) (h : Record) (i : ℕ) → IsLegal h → is_out h i ≡ true → HasMade k h i (to_answer h i) → Runs h i →
+    (unanswered h i ≡ [] → MayFlush h i (kept_behind h i k.shelf.outputs k.discarded)) →
+    MayAnswer h i (notes_of k.shelf.outputs) (numbers_of k.discarded) (kept_behind h i k.shelf.outputs k.discarded)
+may_answer_by k h i legal out made runs flushes =
+    let notes = made_may_be_noted k h i legal made in
+    let rule = rule_of_runs h i runs in
+    record {
+      out = out;
+      settled = none_owed h i made.settled;
+      rule = rule.0;
+      follows = rule.1;
+      made = notes.made rule.0 rule.1;
+      refused = notes.refused rule.0 rule.1;
+      same = notes.same;
+      in_order = ap (λ (ps : List (List ℕ)). without (put_out (notes_of k.shelf.outputs) ++ numbers_of k.discarded) (joined ps)) (sym (stands_at h (Held i) legal));
+      flush = flushes;
+    }
 
 module _ {P : Type 0} {observe : P → Observation} {old : EngineState P} (slots : Vec (Option Kept)) (i : ℕ) (outputs : List Output)
     (stands : StandsMade observe i (to_answer old.log i) old) (may : MayNoteMade i old) (one : OneKeeper (PutsOut outputs) i old.keepers.items slots.items) where
@@ -197,31 +237,63 @@ module _ {P : Type 0} {observe : P → Observation} {old : EngineState P} (slots
   same : outputs ≡ k.shelf.outputs
   same = put.1.1.outputs_are
 
+  -- the copies that it discards, of which the keeper still has all
+  abbrev gone : List Copy
+  gone = discarded_of (keeper_at slots.items i)
+
+  left : put.0.discarded ≡ gone
+  left = sym (ap discarded_of put.1.0)
+
+  same_gone : gone ≡ k.discarded
+  same_gone = sym left ∙ put.1.1.discarded
+
   abbrev kept : List ℕ
-  kept = kept_behind old.log i outputs
+  kept = kept_behind old.log i outputs gone
 
   -- the entry
   abbrev e : Entry
-  e = Answer i (notes_of outputs) [] kept
+  e = answer_of old.log i outputs gone
 
-  row : MayAnswer old.log i (notes_of outputs) [] kept
-  row = rw same (may_answer_made k old.log i stands.legal may.out found.1.1 may.holds (λ none. rw found.1.0 at (may.flush none)))
+  row : MayAnswer old.log i (notes_of outputs) (numbers_of gone) kept
+  row = rw (same, same_gone) (may_answer_by k old.log i stands.legal may.out found.1.1 may.runs (λ none. rw found.1.0 at (may.flush none)))
 
-  may_note : MayBeNoted old.log i k.shelf.outputs
+  may_note : MayBeNoted old.log i k.shelf.outputs k.discarded
   may_note = made_may_be_noted k old.log i stands.legal found.1.1
 
   known : IsLegal (e ∷ old.log) → AreKnown (e ∷ old.log) (parcels_out outputs)
-  known = subst (λ os. IsLegal (Answer i (notes_of os) [] kept ∷ old.log) → AreKnown (Answer i (notes_of os) [] kept ∷ old.log) (parcels_out os)) (sym same)
-      (outputs_known k old.log i kept found.1.1)
+  known = rw (same, same_gone) (outputs_known k old.log i (kept_behind old.log i k.shelf.outputs k.discarded) found.1.1)
 
-  -- the engine's state stands for the record with it
+  -- each parcel that is discarded counts once
+  pub many_dropped : {dropped : ℕ} → IsSomeAnd (keeper_at old.keepers.items i)
+      (λ k. (h : Record) (j : ℕ) (given : List Input) → IsLegal h → HasMade k h j given → dropped ≡ count_by (is_first h j) (numbers_of k.discarded)) →
+      dropped ≡ count_by (is_first old.log i) (numbers_of gone)
+  many_dropped many = rw same_gone ((rw found.1.0 at many) old.log i (to_answer old.log i) stands.legal found.1.1)
+
+  -- the keeper is that of the record with it, but still has what is discarded
+  put_discarding : IsLegal (e ∷ old.log) → IsDiscarding put.0 (e ∷ old.log) i
+  put_discarding legal = record {
+    keeps = subst (λ (cs : List Copy). IsLegal (Answer i (notes_of outputs) (numbers_of cs) kept ∷ old.log) → Keeps put.0 (Answer i (notes_of outputs) (numbers_of cs) kept ∷ old.log) i)
+        (sym same_gone) (put.1.1.keeps old.log i kept found.1.1) legal;
+    fit = put.1.1.stays.fit ∙ found.1.1.fit;
+    among = λ c l. rw (if_self i (numbers_of gone) (last_discarded old.log i)) (rw left at l);
+  }
+
+  discarding : IsLegal (e ∷ old.log) → AreDiscarding i slots.items (e ∷ old.log)
+  discarding legal = record {
+    others = λ j other. rw (one.others j other) (stays_kept (keeper_at old.keepers.items j) old.log j e legal (λ here. other (sym here)) (stands.keeps.others j other));
+    one = subst (λ (o : Option Kept). IsSomeAnd o (λ is. IsDiscarding is (e ∷ old.log) i)) (sym put.1.0) (put_discarding legal);
+    unticked = ap has_tick (unanswered_none old.log i outputs (numbers_of gone) kept);
+    going = may.going;
+  }
+
+  -- the engine's state stands for the record with it, but for what it discards
   pub answered_made : {places : List Row} {states : List (InstanceState P)} → Behind old.log e (Knows observe states) → PutsOutAt i outputs old.places places →
       length places ≡ length old.places → length states ≡ length old.states → SameCapacities old.places places →
-      Stands observe (record old { places = places; keepers = slots; states = states; log = e ∷ old.log })
+      StandsDiscarding observe i (record old { places = places; keepers = slots; states = states; log = e ∷ old.log })
   answered_made {places} {states} knows puts rows size capacities =
       let h = old.log in
-      let shifts = puts.answered (notes_of outputs) [] kept (noted_so outputs) (rw same may_note.filled) (stands.keepers.apart i may.joins) in
-      stands_behind stands AreKept {new = record old { places = places; keepers = slots; states = states; log = e ∷ h }} row (never_both may.going)
+      let shifts = puts.answered (notes_of outputs) (numbers_of gone) kept (noted_so outputs) (rw same may_note.filled) (stands.keepers.apart i may.joins) in
+      stands_behind stands (AreDiscarding i) {new = record old { places = places; keepers = slots; states = states; log = e ∷ h }} row (never_both may.going)
       (λ legal.
       let rests = moved (assumption) (λ alone. never_both alone may.joins) legal shifts (known legal) capacities rows (assumption stands) in
       record {
@@ -232,15 +304,7 @@ module _ {P : Type 0} {observe : P → Observation} {old : EngineState P} (slots
         begun = rests.begun;
         keepers = one_keepers i old.keepers.items slots.items places (e ∷ h) one rests.keepers;
       })
-      (λ legal j. elim (cases_eq j i) [
-        | inl here ↦ rw (here, put.1.0) (record { keeps = put.1.1.keeps h i kept found.1.1 legal; unticked = ap has_tick (unanswered_none h i outputs kept) })
-        | inr other ↦ rw (one.others j other) (stays_kept (keeper_at old.keepers.items j) h j e legal (λ here. other (sym here)) (stands.keeps.others j other))
-      ])
-      knows (λ _. aside_kept old.balance h e tt stands.balance) rows size
-
-  -- by that entry alone, and nothing waits for an answer then
-  pub answered_only : OnlyAdds (IsMergeOf i) old.log (e ∷ old.log)
-  answered_only = adds_one (IsMergeOf i) old.log old.log (e ∷ old.log) e (adds_none (IsMergeOf i) old.log old.log refl) (follows e old.balance old.log stands.balance row (never_both may.going)) refl refl
+      discarding knows (λ _. aside_kept old.balance h e tt stands.balance) rows size
 
 -- what made something is fit
 pub made_fit : (h : Record) (i : ℕ) (given : List Input) (o : Option Kept) → IsSomeAnd o (λ k. HasMade k h i given) → IsSomeAnd o (λ k. k.fit ≡ true)
@@ -269,54 +333,72 @@ module _ {P : Type 0} {observe : P → Observation} {old : EngineState P} {slots
   -- all that was taken was answered
   pub taken_made : (now : ℕ) → now ≡ lease_now old.log i → OneKeeper (AnswersTaken now) i old.keepers.items slots.items →
       StandsMade observe i (taken_in old.log i) (record old { keepers = slots })
-  taken_made now moment one = made_one i (taken_in old.log i) stands one (λ was is answers kept. answers.made old.log i moment kept.keeps)
+  taken_made now moment one = made_one i (taken_in old.log i) stands one (λ was is answers kept. answers.made old.log i moment kept.keeps (kept.cleared answers.had))
 
   -- a tick was answered where nothing was taken
   pub tick_made : (now : ℕ) → OneKeeper (Ticks now) i old.keepers.items slots.items → taken_in old.log i ≡ [] →
       StandsMade observe i (record { step = ticks now; copies = [] } ∷ []) (record old { keepers = slots })
   tick_made now one none = made_one i (record { step = ticks now; copies = [] } ∷ []) stands one
-      (λ was is acts kept. acts.made old.log i [] (none_taken was old.log i kept.keeps acts.had none))
+      (λ was is acts kept. acts.made old.log i [] (none_taken was old.log i kept.keeps acts.had (kept.cleared acts.had) none))
 
   -- and so was the flush
   pub flush_made : OneKeeper Flushes i old.keepers.items slots.items → taken_in old.log i ≡ [] →
       StandsMade observe i (flush ∷ []) (record old { keepers = slots })
   flush_made one none = made_one i (flush ∷ []) stands one
-      (λ was is flushes kept. flushes.made old.log i [] (none_taken was old.log i kept.keeps flushes.had none))
+      (λ was is flushes kept. flushes.made old.log i [] (none_taken was old.log i kept.keeps flushes.had (kept.cleared flushes.had) none))
+
+-- WHO MAY NOTE IT
+-- a tick waits for an answer
+pub tick_waits : (h : Record) (i now : ℕ) → unanswered (Tick i now ∷ h) i ≡ [] → ⊥
+tick_waits h i now none =
+    let some = sym (ap (λ (xs : List Input). xs ++ unanswered h i) (if_self i (record { step = ticks now; copies = [] } ∷ []) [])) ∙ none in cc
+
+-- an instance that holds something answers by a rule,
+pub made_runs : (h : Record) (i : ℕ) (o : Option Kept) → IsLegal h → IsSomeAnd o (λ k. HasMade k h i (to_answer h i)) → at h (Held i) ≢ [] → Runs h i
+made_runs h i None legal made holds = absurd made
+made_runs h i (Some k) legal made holds = (made_may_be_noted k h i legal made).runs holds
+
+-- and so does one of which a tick is due
+free_is_host : (s : Settings) (tests : List Test) → rule_of s tests ≡ Some is_free → s ≡ settings.Host
+free_is_host settings.Host tests is = refl
+free_is_host other tests is = cc
+
+pub due_runs : (h : Record) (i now : ℕ) → IsTickDue h i now → Runs (Tick i now ∷ h) i
+due_runs h i now due = go due.rule due.follows due.reached
+  where
+    go : (rule : Rule) → RunsBy h i rule → IsDue rule (steps h i) now → Runs (Tick i now ∷ h) i
+    go (judges judge) follows reached = absurd reached
+    go (reduces s) follows reached = inl (
+      s,
+      record {
+        component = follows.component;
+        runs = follows.runs;
+        transform = follows.transform;
+        tests = follows.tests;
+        mean = follows.mean;
+        ruled = follows.ruled;
+      },
+    )
+    go is_free follows reached = inr (record {
+      component = follows.component;
+      runs = follows.runs;
+      transform = follows.transform;
+      set = free_is_host follows.component.settings follows.tests follows.ruled;
+    })
 
 -- behind a flush nothing is kept
-pub flushed_all : (h : Record) (i : ℕ) (o : Option Kept) → IsLegal h → IsSomeAnd o (λ k. HasMade k h i (flush ∷ [])) → IsSomeAnd o (λ k. k.reduce.groups ≡ []) →
-    MayFlush h i [] → IsSomeAnd o (λ k. MayFlush h i (kept_behind h i k.shelf.outputs))
+pub flushed_all : (h : Record) (i : ℕ) (o : Option Kept) → IsLegal h → IsSomeAnd o (λ k. HasMade k h i (flush ∷ [])) → IsSomeAnd o (λ k. HoldsNone k.maker) →
+    MayFlush h i [] → IsSomeAnd o (λ k. MayFlush h i (kept_behind h i k.shelf.outputs k.discarded))
 flushed_all h i None legal made none may = absurd made
 flushed_all h i (Some k) legal made none may = rw (kept_nothing k h i (flush ∷ []) legal made none) may
 
 -- WHAT WAS NOTED
--- what is taken off is what was noted
+-- what is taken off is what was noted, and what the keeper still has is what that discards
 pub noted_made : (h new : Record) (i : ℕ) (outputs : List Output) (o n : Option Kept) → IsSomeAnd o (λ was. IsSomeAnd n (λ is. PutsOut outputs was is)) →
-    new ≡ Answer i (notes_of outputs) [] (kept_behind h i outputs) ∷ h →
-    IsSomeAnd o (λ k. new ≡ Answer i (notes_of k.shelf.outputs) [] (kept_behind h i k.shelf.outputs) ∷ h)
+    new ≡ answer_of h i outputs (discarded_of n) ∷ h → IsSomeAnd o (λ k. new ≡ answer_of h i k.shelf.outputs k.discarded ∷ h)
 noted_made h new i outputs None n puts noted = absurd puts
 noted_made h new i outputs (Some was) None puts noted = absurd puts
-noted_made h new i outputs (Some was) (Some now) puts noted =
-    noted ∙ ap (λ (os : List Output). Answer i (notes_of os) [] (kept_behind h i os) ∷ h) puts.outputs_are
-
-pub noted_answer : (h new : Record) (i : ℕ) (o : Option Kept) → IsSomeAnd o (λ k. new ≡ Answer i (notes_of k.shelf.outputs) [] (kept_behind h i k.shelf.outputs) ∷ h) →
-    HasAnswered i h new
-noted_answer h new i None noted = absurd noted
-noted_answer h new i (Some k) noted = record { outputs = notes_of k.shelf.outputs; kept = kept_behind h i k.shelf.outputs; noted = noted }
-
--- an instance whose answer discards and keeps nothing holds nothing
-none_held : (h : Record) (i : ℕ) (outputs : List NotedOutput) → IsLegal (Answer i outputs [] [] ∷ h) → at (Answer i outputs [] [] ∷ h) (Held i) ≡ []
-none_held h i outputs legal =
-    held_none (Answer i outputs [] [] ∷ h) i legal
-    (λ c. ap (λ (ps : List (List ℕ)). count c (joined ps)) (sym (stands_at (Answer i outputs [] [] ∷ h) (Held i) legal)) ∙ answer_holds h i outputs [] [] legal c)
-
-pub noted_flush : (h new : Record) (i : ℕ) (o : Option Kept) → IsLegal new →
-    IsSomeAnd o (λ k. new ≡ Answer i (notes_of k.shelf.outputs) [] (kept_behind h i k.shelf.outputs) ∷ h) →
-    IsSomeAnd o (λ k. MayFlush h i (kept_behind h i k.shelf.outputs)) → HasFlushed i h new
-noted_flush h new i None legal noted may = absurd noted
-noted_flush h new i (Some k) legal noted may =
-    let all = noted ∙ ap (λ (kept : List ℕ). Answer i (notes_of k.shelf.outputs) [] kept ∷ h) may.emptied in
-    record { outputs = notes_of k.shelf.outputs; noted = all; none = rw all (none_held h i (notes_of k.shelf.outputs) (rw all at legal)) }
+noted_made h new i outputs (Some was) (Some now) puts noted = rw (puts.outputs_are, puts.discarded) at noted
 
 -- WHETHER IT IS FIT
 -- one keeper is changed twice
@@ -409,6 +491,7 @@ module _ {P : Type 0} {observe : P → Observation} {old : EngineState P} (slots
         (one_is (TakesIn parcel) (λ k. IsKept k old.log i) (λ k. IsKept k (takes_it ∷ old.log) i) (keeper_at old.keepers.items i) (keeper_at slots.items i) one.one (stands.keeps i)
         (λ was is takes_in had. record {
           unticked = ticks_stay old.log i takes_it tt had.unticked;
+          cleared = λ fit. let fit_before = sym takes_in.stays.fit ∙ fit in takes_in.discarded fit_before ∙ had.cleared fit_before;
           keeps = subst (λ copies. IsLegal (Take i stage copies ∷ old.log) → Keeps is (Take i stage copies ∷ old.log) i) are
               (λ before. takes_in.keeps old.log i stage had.keeps before (taken_known old.log (Contents i stage) parcel old.places places takes stands.places)) legal;
         })))
@@ -455,7 +538,7 @@ checks_all h i (Some m) o is_kept checks = checks_so h i m o is_kept checks
 
 -- and there is no other moment
 pub checks_only : (h : Record) (i : ℕ) (moment : Option ℕ) (o : Option Kept) → IfSome o (λ k. IsKept k h i) → IsSomeAnd o CanAnswer → IsSomeAnd o (ChecksOnly moment) →
-    taken_in h i ≡ [] → (now : ℕ) → IsTickDue h i now → IsSomeAnd moment (λ m. m ≤ now)
-checks_only h i moment None is_kept fit checks none now tick = absurd fit
-checks_only h i moment (Some k) is_kept fit checks none now tick =
-    no_tick_before k h i now moment fit is_kept.keeps is_kept.unticked (subst (IsDueBehind moment h i) (sym none) (checks fit h i is_kept.keeps none)) tick
+    (RunsHost h i → ⊥) → taken_in h i ≡ [] → (now : ℕ) → IsTickDue h i now → IsSomeAnd moment (λ m. m ≤ now)
+checks_only h i moment None is_kept fit checks no_host none now tick = absurd fit
+checks_only h i moment (Some k) is_kept fit checks no_host none now tick =
+    no_tick_before k h i now moment fit is_kept.keeps no_host is_kept.unticked (subst (IsDueBehind moment h i) (sym none) (checks fit h i is_kept.keeps none)) tick

@@ -17,7 +17,7 @@ use Rattle.vx_places.specs.declared.row.Row.{Row}
 use Rattle.vx_places.specs.Views.{parcels_here}
 use Rattle.vx_places.specs.Holding.{AreKnown}
 use Rattle.vx_tasks.specs.Joining.{joins_at}
-use Rattle.vx_keeping.specs.Answers.{notes_of, GivesUp, IsDueBehind}
+use Rattle.vx_keeping.specs.Answers.{notes_of, GivesUp, IsDueBehind, TakesOut}
 use Rattle.vx_keeping.specs.Kept.{Kept, copies_kept}
 use Rattle.vx_keeping.specs.Keeping.{taken_in, Accounts, Keeps, HasMade}
 use Rattle.vx_keeping.specs.Laws.{LeavesKept}
@@ -34,9 +34,10 @@ AreWhose slots h = (i : ℕ) → is_some (keeper_at slots i) ≡ joins_at h i
 abbrev pub OthersJudge : Record → Type 0
 OthersJudge h = (i : ℕ) → transform_at h i ≡ true → joins_at h i ≡ false → judge_at h i ≡ true
 
--- a keeper is that of the record, and no tick waits for its answer
+-- a keeper is that of the record, all that its last answer discarded was taken out of it if it is fit, and no tick waits for its answer
 pub record IsKept (k : Kept) (h : Record) (i : ℕ) : Type 0 where
   pub keeps : Keeps k h i
+  pub cleared : k.fit ≡ true → k.discarded ≡ []
   pub unticked : ticks_wait h i ≡ false
 
 -- so is each
@@ -85,6 +86,7 @@ pub record GetsUnfit (was is : Kept) : Type 0 where
 
 -- it takes a parcel, as a Take says
 pub record TakesIn (parcel : Parcel) (was is : Kept) : Type 0 where
+  pub discarded : was.fit ≡ true → is.discarded ≡ was.discarded
   pub keeps : (h : Record) (i stage : ℕ) → Keeps was h i → IsLegal (Take i stage (numbers_of parcel.finalizers) ∷ h) → AreKnown h (parcel ∷ []) →
       Keeps is (Take i stage (numbers_of parcel.finalizers) ∷ h) i
   pub stays : StaysFit was is
@@ -92,7 +94,7 @@ pub record TakesIn (parcel : Parcel) (was is : Kept) : Type 0 where
 -- it was fit, and makes of all that was taken what the next answer is
 pub record AnswersTaken (now : ℕ) (was is : Kept) : Type 0 where
   pub had : was.fit ≡ true
-  pub made : (h : Record) (i : ℕ) → now ≡ lease_now h i → Keeps was h i → HasMade is h i (taken_in h i)
+  pub made : (h : Record) (i : ℕ) → now ≡ lease_now h i → Keeps was h i → was.discarded ≡ [] → HasMade is h i (taken_in h i)
   pub stays : StaysFit was is
 
 -- it was fit, and acts by itself at a moment, behind what it was given
@@ -115,8 +117,14 @@ pub record FailsShort (was is : Kept) : Type 0 where
 -- what it has put out is taken off, as the Answer says that is to all that is to be answered
 pub record PutsOut (outputs : List Output) (was is : Kept) : Type 0 where
   pub outputs_are : outputs ≡ was.shelf.outputs
-  pub keeps : (h : Record) (i : ℕ) (kept : List ℕ) → HasMade was h i (to_answer h i) → IsLegal (Answer i (notes_of outputs) [] kept ∷ h) →
-      Keeps is (Answer i (notes_of outputs) [] kept ∷ h) i
+  pub keeps : (h : Record) (i : ℕ) (kept : List ℕ) → HasMade was h i (to_answer h i) →
+      IsLegal (Answer i (notes_of outputs) (numbers_of was.discarded) kept ∷ h) → Keeps is (Answer i (notes_of outputs) (numbers_of was.discarded) kept ∷ h) i
+  pub discarded : is.discarded ≡ was.discarded
+  pub stays : StaysFit was is
+
+-- a copy that its last answer discarded is taken out, to be spent
+pub record TakesOutOne (copy : Copy) (was is : Kept) : Type 0 where
+  pub takes : TakesOut copy was is
   pub stays : StaysFit was is
 
 -- a copy of it is taken out, to be spent

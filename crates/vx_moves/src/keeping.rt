@@ -1,14 +1,18 @@
 // What each instance keeps that merges, one function for each thing that is done with it.
-ghost use Rattle.std.specs.Prelude.{◌≡◌, ◌<◌, ◌↔◌, ℕ, [], true, false, is_some, length, IsTrue, OnOk, OnErr, IfSome, IfNone};
+ghost use Rattle.std.specs.Prelude.{◌≡◌, ◌<◌, ◌↔◌, ℕ, List, [], true, false, is_some, length, count_by, IsTrue, OnOk, OnErr, IfSome, IfNone};
+ghost use Rattle.vx_ledger.specs.Copies.{numbers_of};
+ghost use Rattle.vx_record.specs.Inputs.{Input as NotedInput};
 ghost use Rattle.vx_record.specs.Records.{Record};
 ghost use Rattle.vx_record.specs.Legal.{IsLegal};
 ghost use Rattle.vx_record.specs.Places.Place.{Held};
 ghost use Rattle.vx_record.specs.Shifts.{at};
-ghost use Rattle.vx_keeping.specs.Keeping.{Keeps};
-ghost use Rattle.vx_moves.specs.Keepers.{keeper_at, OneKeeper, IsKeeper, TakesIn, AnswersTaken, Ticks, Flushes, FailsShort, PutsOut, Loses, IsEmptied, Rests, IsAtWork, ChecksAt, ChecksOnly};
+ghost use Rattle.vx_record.specs.Tallies.{is_first};
+ghost use Rattle.vx_keeping.specs.Keeping.{Keeps, HasMade};
+ghost use Rattle.vx_keeping.specs.Kept.{HoldsNone};
+ghost use Rattle.vx_moves.specs.Keepers.{keeper_at, OneKeeper, IsKeeper, TakesIn, AnswersTaken, Ticks, Flushes, FailsShort, PutsOut, TakesOutOne, Loses, IsEmptied, Rests, IsAtWork, ChecksAt, ChecksOnly};
 
 use std::alloc::Global;
-use vx_keeping::Keeper;
+use vx_keeping::{Hosts, Keeper};
 use vx_ledger::{Finalizer, Parcel};
 use vx_transform::Output;
 use vx_value::{ItemList, WantOfMemory};
@@ -48,10 +52,11 @@ pub(crate) fn keeps_none(keepers: &Vec<Option<Keeper>>, i: usize) -> bool
 }
 
 // Has a keeper answer what was taken.
-pub(crate) fn answer(
+pub(crate) fn answer<H: Hosts>(
     keepers: &mut Vec<Option<Keeper>>,
-    i: usize,
     alloc: Global,
+    hosts: &mut H,
+    i: u32,
     now: u64,
 ) -> Result<(), WantOfMemory>
     requires within { i < length keepers.old.items }
@@ -59,17 +64,18 @@ pub(crate) fn answer(
     ensures made { OnOk result (OneKeeper (AnswersTaken now) i keepers.old.items keepers.new.items) }
     ensures short { OnErr result (OneKeeper FailsShort i keepers.old.items keepers.new.items) }
 {
-    match &mut keepers[i] {
-        Some(keeper) => keeper.answer(alloc, now),
+    match &mut keepers[i as usize] {
+        Some(keeper) => keeper.answer(alloc, hosts, i, now),
         None => unreachable!(),
     }
 }
 
 // Has a keeper act by itself at a moment.
-pub(crate) fn tick(
+pub(crate) fn tick<H: Hosts>(
     keepers: &mut Vec<Option<Keeper>>,
-    i: usize,
     alloc: Global,
+    hosts: &mut H,
+    i: u32,
     now: u64,
 ) -> Result<(), WantOfMemory>
     requires within { i < length keepers.old.items }
@@ -77,26 +83,27 @@ pub(crate) fn tick(
     ensures made { OnOk result (OneKeeper (Ticks now) i keepers.old.items keepers.new.items) }
     ensures short { OnErr result (OneKeeper FailsShort i keepers.old.items keepers.new.items) }
 {
-    match &mut keepers[i] {
-        Some(keeper) => keeper.tick(alloc, now),
+    match &mut keepers[i as usize] {
+        Some(keeper) => keeper.tick(alloc, hosts, i, now),
         None => unreachable!(),
     }
 }
 
 // Has a keeper put out all that it holds.
-pub(crate) fn flush(
+pub(crate) fn flush<H: Hosts>(
     keepers: &mut Vec<Option<Keeper>>,
-    i: usize,
     alloc: Global,
+    hosts: &mut H,
+    i: u32,
 ) -> Result<(), WantOfMemory>
     requires within { i < length keepers.old.items }
     requires there { IsKeeper (λ k. Unit {0}) keepers.old.items i }
     ensures made { OnOk result (OneKeeper Flushes i keepers.old.items keepers.new.items) }
-    ensures none { OnOk result (IsKeeper (λ k. k.reduce.groups ≡ []) keepers.new.items i) }
+    ensures none { OnOk result (IsKeeper (λ k. HoldsNone k.maker) keepers.new.items i) }
     ensures short { OnErr result (OneKeeper FailsShort i keepers.old.items keepers.new.items) }
 {
-    match &mut keepers[i] {
-        Some(keeper) => keeper.flush(alloc),
+    match &mut keepers[i as usize] {
+        Some(keeper) => keeper.flush(alloc, hosts, i),
         None => unreachable!(),
     }
 }
@@ -137,6 +144,36 @@ pub(crate) fn put_out(keepers: &mut Vec<Option<Keeper>>, i: usize) -> ItemList<O
     }
 }
 
+// How many parcels the copies came first in that the next answer of a keeper discards.
+pub(crate) fn dropped(keepers: &Vec<Option<Keeper>>, i: usize) -> u64
+    requires within { i < length keepers.now.items }
+    requires there { IsKeeper (λ k. Unit {0}) keepers.now.items i }
+    ensures many { IsKeeper
+        (λ k. (h : Record) (j : ℕ) (given : List NotedInput) → IsLegal h → HasMade k h j given →
+        result ≡ count_by (is_first h j) (numbers_of k.discarded))
+        keepers.now.items i }
+{
+    match &keepers[i] {
+        Some(keeper) => keeper.dropped(),
+        None => unreachable!(),
+    }
+}
+
+// Takes a copy of a keeper that its last answer discarded, to be spent. `None` exactly where none is left.
+pub(crate) fn next_discarded(keepers: &mut Vec<Option<Keeper>>, i: usize) -> Option<Finalizer>
+    requires within { i < length keepers.old.items }
+    requires there { IsKeeper (λ k. Unit {0}) keepers.old.items i }
+    ensures some { IfSome result
+        (λ copy. OneKeeper (TakesOutOne copy) i keepers.old.items keepers.new.items) }
+    ensures none { IfNone result (IsKeeper (λ k. k.discarded ≡ []) keepers.old.items i) }
+    ensures same { IfNone result (keepers.new.items ≡ keepers.old.items) }
+{
+    match &mut keepers[i] {
+        Some(keeper) => keeper.next_discarded(),
+        None => unreachable!(),
+    }
+}
+
 // Takes a copy of a keeper, to be spent. `None` exactly where it has none.
 pub(crate) fn lose(keepers: &mut Vec<Option<Keeper>>, i: usize) -> Option<Finalizer>
     requires within { i < length keepers.old.items }
@@ -173,25 +210,25 @@ fn is_at_rest(keeper: &Keeper) -> bool
 }
 
 // The moment of a keeper's next check, where it is fit and took nothing since its last answer.
-pub(crate) fn due(keepers: &Vec<Option<Keeper>>, i: usize) -> Option<u64>
+pub(crate) fn due<H: Hosts>(keepers: &Vec<Option<Keeper>>, hosts: &H, i: u32) -> Option<u64>
     requires within { i < length keepers.now.items }
     requires there { IsKeeper (λ k. Unit {0}) keepers.now.items i }
     ensures due { IfSome result (λ moment. IsKeeper (ChecksAt moment) keepers.now.items i) }
     ensures only { IsKeeper (ChecksOnly result) keepers.now.items i }
 {
-    match &keepers[i] {
-        Some(keeper) => due_at_rest(keeper),
+    match &keepers[i as usize] {
+        Some(keeper) => due_at_rest(keeper, hosts, i),
         None => unreachable!(),
     }
 }
 
 // The moment of its next check, where it is so.
-fn due_at_rest(keeper: &Keeper) -> Option<u64>
+fn due_at_rest<H: Hosts>(keeper: &Keeper, hosts: &H, i: u32) -> Option<u64>
     ensures due { IfSome result (λ moment. ChecksAt moment keeper.now) }
     ensures only { ChecksOnly result keeper.now }
 {
     if is_at_rest(keeper) {
-        keeper.due()
+        keeper.due(hosts, i)
     } else {
         None
     }

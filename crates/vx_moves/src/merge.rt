@@ -1,4 +1,4 @@
-ghost use Rattle.std.specs.Prelude.{◌≡◌, ◌≢◌, ◌<◌, ◌≤◌, ℕ, List, [], length, true, false, OnOk, OnErr, IfSome, IsSomeAnd, IsTrue, ◌↔◌};
+ghost use Rattle.std.specs.Prelude.{◌≡◌, ◌≢◌, ◌<◌, ◌≤◌, ◌+◌, ◌∷◌, ℕ, List, [], length, true, false, OnOk, OnErr, IfSome, IsSomeAnd, IsTrue, ◌↔◌};
 ghost use Rattle.vx_value.specs.Texts.{is_empty};
 ghost use Rattle.vx_record.specs.Places.Place.{Held};
 ghost use Rattle.vx_record.specs.Shifts.{at};
@@ -7,17 +7,25 @@ ghost use Rattle.vx_record.specs.Answering.{MayFlush};
 ghost use Rattle.vx_record.specs.Inputs.{Input as NotedInput, ticks_wait, unanswered, to_answer};
 ghost use Rattle.vx_record.specs.Transforms.{IsTickDue};
 ghost use Rattle.vx_tasks.specs.Joining.{joins_at};
-ghost use Rattle.vx_keeping.specs.Keeping.{taken_in};
+ghost use Rattle.vx_keeping.specs.Keeping.{taken_in, OwesOnly, RunsHost};
 ghost use Rattle.vx_moves.specs.Leaving.{Leaves};
-ghost use Rattle.vx_moves.specs.Keepers.{IsKeeper, CanAnswer, OneKeeper, StaysFit, GetsUnfit, FailsShort};
-ghost use Rattle.vx_moves.specs.Merging.{StandsMade, HasRoomForMade, MayMerge, MayNoteMade, IsMergeOf, HasNotedMade, HasAnswered, HasTicked, HasFlushed};
+ghost use Rattle.vx_moves.specs.Keepers.{keeper_at, IsKeeper, CanAnswer, OneKeeper, StaysFit, GetsUnfit, FailsShort};
+ghost use Rattle.vx_status.specs.declared.outcome.Outcome.TheVariants.{Filtered};
+ghost use Rattle.vx_moves.specs.Spends.{IsSpendOf, unspent};
+ghost use Rattle.vx_moves.specs.Merging.{StandsMade, StandsDiscarding, SpendsDiscarded, answer_of, discarded_of, HasRoomForMade, MayMerge, MayNoteMade, IsMergeOf, HasNotedMade, HasAnswered, HasTicked, HasFlushed};
 ghost use Rattle.vx_moves.specs.Stands.{Stands};
 
 use crate::engine::EngineState;
 use crate::keeping;
+use crate::settle::settle;
 use std::alloc::Global;
 use vx_ends::Port;
-use vx_value::WantOfMemory;
+use vx_history::History;
+use vx_keeping::{Hosts, Keeper};
+use vx_record::Entry;
+use vx_status::Outcome;
+use vx_transform::Output;
+use vx_value::{ItemList, WantOfMemory};
 
 impl<P: Port> EngineState<P> {
     /// Whether an instance merges.
@@ -50,28 +58,36 @@ impl<P: Port> EngineState<P> {
         keeping::has_room(&self.keepers, i as usize)
     }
 
-    /// The moment in milliseconds from which on an instance that merges, and answered all that it took, is to act by itself. `None` where
-    /// it holds no group, or isn't fit.
-    pub fn check_due(&self, i: u32) -> Option<u64>
+    /// The moment in milliseconds from which on an instance that merges, and answered all that it took, is to act by itself. `None` of a
+    /// reduce without a group, and of one that isn't fit. When a transform acts that the program hands in, that one says alone.
+    pub fn check_due<H: Hosts>(&self, hosts: &H, i: u32) -> Option<u64>
         requires stands { Stands P.observed self.now }
         requires within { i < length self.now.states }
         requires joins { joins_at self.now.log i ≡ true }
         ensures due { IfSome result (λ moment. (now : ℕ) → moment ≤ now → IsTickDue self.now.log i now) }
         ensures none { IfSome result (λ moment. taken_in self.now.log i ≡ []) }
         ensures only { IsKeeper CanAnswer self.now.keepers.items i →
-            taken_in self.now.log i ≡ [] → (now : ℕ) → IsTickDue self.now.log i now →
+            (RunsHost self.now.log i → ⊥) → taken_in self.now.log i ≡ [] →
+            (now : ℕ) → IsTickDue self.now.log i now →
             IsSomeAnd result (λ moment. moment ≤ now) }
     {
-        keeping::due(&self.keepers, i as usize)
+        keeping::due(&self.keepers, hosts, i)
     }
 
-    /// Has an instance that merges and is out answer what it took, at the moment of its lease in milliseconds.
+    /// Has an instance that merges and is out answer what it took, at the moment of its lease in milliseconds. What it discards is spent.
     ///
     /// For want of memory nothing has changed in the record, and its keeper answers nothing any more.
-    pub fn merge_taken(&mut self, alloc: Global, i: u32, now: u64) -> Result<(), WantOfMemory>
+    pub fn merge_taken<H: Hosts>(
+        &mut self,
+        alloc: Global,
+        hosts: &mut H,
+        i: u32,
+        now: u64,
+    ) -> Result<(), WantOfMemory>
         requires stands { Stands P.observed self.old }
         requires within { i < length self.old.states }
         requires may { MayMerge self.old.log i now }
+        requires holds { at self.old.log (Held i) ≢ [] }
         requires took { unanswered self.old.log i ≢ [] }
         ensures stands { Stands P.observed self.new }
         ensures only { OnlyAdds (IsMergeOf i) self.old.log self.new.log }
@@ -85,9 +101,10 @@ impl<P: Port> EngineState<P> {
         ensures unchanged { OnErr result (self.new.log ≡ self.old.log) }
         ensures size { length self.new.states ≡ length self.old.states }
     {
-        keeping::answer(&mut self.keepers, i as usize, alloc, now)?;
+        keeping::answer(&mut self.keepers, alloc, hosts, i, now)?;
         self.reserve_made(i)?;
         self.note_made(i);
+        self.spend_discarded(i);
         Ok(())
     }
 
@@ -95,7 +112,13 @@ impl<P: Port> EngineState<P> {
     /// last answer and its next check is due.
     ///
     /// For want of memory nothing has changed in the record, and its keeper answers nothing any more.
-    pub fn merge_tick(&mut self, alloc: Global, i: u32, now: u64) -> Result<(), WantOfMemory>
+    pub fn merge_tick<H: Hosts>(
+        &mut self,
+        alloc: Global,
+        hosts: &mut H,
+        i: u32,
+        now: u64,
+    ) -> Result<(), WantOfMemory>
         requires stands { Stands P.observed self.old }
         requires within { i < length self.old.states }
         requires may { MayMerge self.old.log i now }
@@ -113,10 +136,11 @@ impl<P: Port> EngineState<P> {
         ensures unchanged { OnErr result (self.new.log ≡ self.old.log) }
         ensures size { length self.new.states ≡ length self.old.states }
     {
-        keeping::tick(&mut self.keepers, i as usize, alloc, now)?;
+        keeping::tick(&mut self.keepers, alloc, hosts, i, now)?;
         self.reserve_made(i)?;
         self.log.note(&(i, now));
         self.note_made(i);
+        self.spend_discarded(i);
         Ok(())
     }
 
@@ -124,10 +148,17 @@ impl<P: Port> EngineState<P> {
     /// come any more.
     ///
     /// For want of memory nothing has changed in the record, and its keeper answers nothing any more.
-    pub fn merge_flush(&mut self, alloc: Global, i: u32, now: u64) -> Result<(), WantOfMemory>
+    pub fn merge_flush<H: Hosts>(
+        &mut self,
+        alloc: Global,
+        hosts: &mut H,
+        i: u32,
+        now: u64,
+    ) -> Result<(), WantOfMemory>
         requires stands { Stands P.observed self.old }
         requires within { i < length self.old.states }
         requires may { MayMerge self.old.log i now }
+        requires holds { at self.old.log (Held i) ≢ [] }
         requires none { unanswered self.old.log i ≡ [] }
         requires last { MayFlush self.old.log i [] }
         ensures stands { Stands P.observed self.new }
@@ -142,9 +173,10 @@ impl<P: Port> EngineState<P> {
         ensures unchanged { OnErr result (self.new.log ≡ self.old.log) }
         ensures size { length self.new.states ≡ length self.old.states }
     {
-        keeping::flush(&mut self.keepers, i as usize, alloc)?;
+        keeping::flush(&mut self.keepers, alloc, hosts, i)?;
         self.reserve_made(i)?;
         self.note_made(i);
+        self.spend_discarded(i);
         Ok(())
     }
 
@@ -184,17 +216,70 @@ impl<P: Port> EngineState<P> {
         requires within { i < length self.old.states }
         requires room { HasRoomForMade i self.old }
         requires may { MayNoteMade i self.old }
-        ensures stands { Stands P.observed self.new }
-        ensures only { OnlyAdds (IsMergeOf i) self.old.log self.new.log }
+        ensures stands { StandsDiscarding P.observed i self.new }
         ensures noted { HasNotedMade i self.old.keepers.items self.old.log self.new.log }
         ensures answered { unanswered self.new.log i ≡ [] }
         ensures fit { OneKeeper StaysFit i self.old.keepers.items self.new.keepers.items }
         ensures leaves { Leaves self.old self.new }
         ensures size { length self.new.states ≡ length self.old.states }
     {
+        let dropped = keeping::dropped(&self.keepers, i as usize);
         let outputs = keeping::put_out(&mut self.keepers, i as usize);
-        self.log.note(&(i, &outputs));
-        self.states.answered(i, outputs.len() as u64, 0);
+        note_outputs(&mut self.log, i, &outputs, &self.keepers);
+        self.states.answered(i, outputs.len() as u64, dropped);
         self.places.put_out(i, outputs);
     }
+
+    // Spends all that the last answer of an instance discarded, and gives the notices that are due then.
+    fn spend_discarded(&mut self, i: u32)
+        requires stands { StandsDiscarding P.observed i self.old }
+        requires within { i < length self.old.states }
+        requires joins { joins_at self.old.log i ≡ true }
+        ensures stands { Stands P.observed self.new }
+        ensures only { OnlyAdds (IsSpendOf i Filtered) self.old.log self.new.log }
+        ensures spent { OwesOnly self.new.log i [] }
+        ensures fit { OneKeeper StaysFit i self.old.keepers.items self.new.keepers.items }
+        ensures leaves { Leaves self.old self.new }
+        ensures size { length self.new.states ≡ length self.old.states }
+    {
+        while self.spend_next_discarded(i) {}
+    }
+
+    // Spends a copy that the last answer of an instance discarded, and gives the notice that is due then. Whether one was left; where
+    // none was, nothing has changed in the record.
+    fn spend_next_discarded(&mut self, i: u32) -> bool
+        requires stands { StandsDiscarding P.observed i self.old }
+        requires within { i < length self.old.states }
+        requires joins { joins_at self.old.log i ≡ true }
+        ensures spent { SpendsDiscarded P.observed i self.old self.new }
+        ensures fewer { IsTrue result → unspent self.new.log + 1 ≡ unspent self.old.log }
+        ensures none { result ≡ false → IsKeeper (λ k. k.discarded ≡ []) self.new.keepers.items i }
+    {
+        let Some(copy) = keeping::next_discarded(&mut self.keepers, i as usize) else {
+            return false;
+        };
+        self.states.spent(i, Outcome::Filtered, false);
+        settle(
+            &mut self.states,
+            &mut self.balance,
+            &mut self.log,
+            i,
+            copy,
+            Outcome::Filtered,
+        );
+        true
+    }
+}
+
+// Notes the answer of an instance, of which these outputs were taken off its keeper, which still has what that discards.
+fn note_outputs(
+    log: &mut History<Entry>,
+    i: u32,
+    outputs: &ItemList<Output>,
+    keepers: &Vec<Option<Keeper>>,
+)
+    ensures { log.new ≡ answer_of log.old i outputs.now (discarded_of (keeper_at keepers.now.items i))
+        ∷ log.old }
+{
+    log.note(&(i, outputs, keepers));
 }

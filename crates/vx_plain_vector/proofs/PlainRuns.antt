@@ -77,7 +77,7 @@ in_force_asked words environment configs h plan one_command one_plan asks (inr j
 
 -- the law by the clauses of the top call, of the record
 pub plain_record : PlainRecord
-plain_record words environment texts before now h well plan chain force stream smooth = plain_case plan chain h stream plain
+plain_record words environment names texts before now h well plan chain force stream smooth = plain_case plan chain h stream plain
   where
     runs : component_of h chain.source ≡ Some chain.reader
     runs = component_there h plan chain.source chain.reader well.legal force chain.reads_there
@@ -100,7 +100,7 @@ plain_record words environment texts before now h well plan chain force stream s
 
 -- and of what the ports tell
 pub plain_bytes : {P : Type 0} (observe : P → Observation) → OneCommand → OnePlan → PlainBytes observe
-plain_bytes observe one_command one_plan words environment configs before now h ports well ports_well plan chain asks device source sink stream bytes took none =
+plain_bytes observe one_command one_plan words environment names configs before now h ports well ports_well plan chain asks device source sink stream bytes took none =
     go (observe sink.numbered.port).given sink_observed.given
   where
     force : in_force h ≡ Some plan
@@ -140,7 +140,7 @@ plain_bytes observe one_command one_plan words environment configs before now h 
 
     law : given h chain.sink ≡ encode chain.codec (picked chain.pickers (events_in chain bytes))
     law =
-        plain_record words environment (Some configs) before now h well plan chain force stream smooth
+        plain_record words environment names (Some configs) before now h well plan chain force stream smooth
         ∙ ap (λ (w : ByteString). encode chain.codec (picked chain.pickers (events_in chain w))) (taken_is stream bytes took.taken)
 
     go : (o : Option ByteString) → IfSome o (λ written. written ≡ given h chain.sink) → IfSome o (λ written. written ≡ encode chain.codec (picked chain.pickers (events_in chain bytes)))

@@ -21,11 +21,11 @@ use Rattle.vx_plain.specs.Plain.{Chain, NoneBehindEnd, picked, events_in, events
 
 -- what the top call ensures of the record of a run that ended well: it is legal and leaves nothing to do, the input was read out, and
 -- what the answer says
-pub record HasRunWell (words : List ByteString) (environment : List Variable) (texts : Option (List Config)) (before now : ℕ) (h : Record) : Type 0 where
+pub record HasRunWell (words : List ByteString) (environment : List Variable) (names : List ByteString) (texts : Option (List Config)) (before now : ℕ) (h : Record) : Type 0 where
   pub legal : IsLegal h
   pub complete : IsClosed h
   pub read : IsReadOut h None
-  pub answer : IsAnswer words environment texts before now h None
+  pub answer : IsAnswer words environment names texts before now h None
 
 -- and of its plan and its ports: what they tell, and how they are numbered. There is one for each component of the plan in force
 pub record HasObservedWell {P : Type 0} (observe : P → Observation) (words : List ByteString) (environment : List Variable) (texts : Option (List Config)) (h : Record) (ports : List (Numbered P)) : Type 0 where
@@ -60,16 +60,16 @@ pub record NothingFailed (observed : Observation) : Type 0 where
 -- transforms pass, one after the other, of the events of the lines that the source took
 abbrev pub PlainRecord : Type 0
 PlainRecord =
-    (words : List ByteString) (environment : List Variable) (texts : Option (List Config)) (before now : ℕ) (h : Record) →
-    HasRunWell words environment texts before now h → (plan : Plan) (chain : Chain plan) → in_force h ≡ Some plan → (stream : ℕ) → IsSmooth chain h stream →
+    (words : List ByteString) (environment : List Variable) (names : List ByteString) (texts : Option (List Config)) (before now : ℕ) (h : Record) →
+    HasRunWell words environment names texts before now h → (plan : Plan) (chain : Chain plan) → in_force h ≡ Some plan → (stream : ℕ) → IsSmooth chain h stream →
     given h chain.sink ≡ encode chain.codec (picked chain.pickers (events_read chain h stream))
 
 -- and where the world tells its texts, and the words ask for a run of that plan: what the sink's port was given, where it tells that,
 -- is the encoding of what the transforms pass of the events of the lines of the bytes that the source's port tells
 abbrev pub PlainBytes : {P : Type 0} → (P → Observation) → Type 0
 PlainBytes {P} observe =
-    (words : List ByteString) (environment : List Variable) (configs : List Config) (before now : ℕ) (h : Record) (ports : List (Numbered P)) →
-    HasRunWell words environment (Some configs) before now h → HasObservedWell observe words environment (Some configs) h ports →
+    (words : List ByteString) (environment : List Variable) (names : List ByteString) (configs : List Config) (before now : ℕ) (h : Record) (ports : List (Numbered P)) →
+    HasRunWell words environment names (Some configs) before now h → HasObservedWell observe words environment (Some configs) h ports →
     (plan : Plan) (chain : Chain plan) → IsReady words environment (Some configs) plan → has_device chain.reader.settings ≡ true →
     (source : PortAt ports chain.source) (sink : PortAt ports chain.sink) (stream : ℕ) (bytes : ByteString) →
     TookOne (observe source.numbered.port) stream bytes → NothingFailed (observe sink.numbered.port) →

@@ -17,7 +17,7 @@ use Rattle.vx_plan.specs.declared.plan.Plan.{Plan}
 use Rattle.vx_plan.specs.declared.stage.Stage.{Stage}
 use Rattle.vx_plan.proofs.Tests.{or_there, and_made, and_both, passing}
 use Rattle.vx_reading.specs.declared.kind.Kind.{Kind}
-use Rattle.vx_reading.specs.declared.kind.Kind.TheVariants.{Stdin, FileIn, DemoLogs, Filter, Route, Sample, Dedupe, Reduce, Console, FileOut, Blackhole}
+use Rattle.vx_reading.specs.declared.kind.Kind.TheVariants.{Stdin, FileIn, DemoLogs, Filter, Route, Sample, Dedupe, Reduce, Host, Console, FileOut, Blackhole}
 use Rattle.vx_reading.specs.declared.plan_fault.PlanFault.{PlanFault}
 use Rattle.vx_reading.specs.Components.{Part, parts, kind_of, type_in}
 use Rattle.vx_reading.specs.Names.{AreApart, names_of, AreApartByClass}
@@ -62,6 +62,7 @@ kind_fits whole part Route same = and_made (same_class Transform part.class) (no
 kind_fits whole part Sample same = and_made (same_class Transform part.class) (not (is_source (component whole part Sample)) || is_empty (component whole part Sample).inputs) same (transform_reads part.class (component whole part Sample).inputs same)
 kind_fits whole part Dedupe same = and_made (same_class Transform part.class) (not (is_source (component whole part Dedupe)) || is_empty (component whole part Dedupe).inputs) same (transform_reads part.class (component whole part Dedupe).inputs same)
 kind_fits whole part Reduce same = and_made (same_class Transform part.class) (not (is_source (component whole part Reduce)) || is_empty (component whole part Reduce).inputs) same (transform_reads part.class (component whole part Reduce).inputs same)
+kind_fits whole part Host same = and_made (same_class Transform part.class) (not (is_source (component whole part Host)) || is_empty (component whole part Host).inputs) same (transform_reads part.class (component whole part Host).inputs same)
 kind_fits whole part Console same = and_made (same_class Sink part.class) (not (is_source (component whole part Console)) || is_empty (component whole part Console).inputs) same (sink_reads part.class (component whole part Console).inputs same)
 kind_fits whole part FileOut same = and_made (same_class Sink part.class) (not (is_source (component whole part FileOut)) || is_empty (component whole part FileOut).inputs) same (sink_reads part.class (component whole part FileOut).inputs same)
 kind_fits whole part Blackhole same = and_made (same_class Sink part.class) (not (is_source (component whole part Blackhole)) || is_empty (component whole part Blackhole).inputs) same (sink_reads part.class (component whole part Blackhole).inputs same)
@@ -118,6 +119,12 @@ kind_staged whole part Dedupe same = go part.class same
 kind_staged whole part Reduce same = go part.class same
   where
     go : (class : Class) → same_class Transform class ≡ true → has_stage (record (component whole part Reduce) { class = class }) ≡ true
+    go Source e = refl
+    go Transform e = refl
+    go Sink e = cc
+kind_staged whole part Host same = go part.class same
+  where
+    go : (class : Class) → same_class Transform class ≡ true → has_stage (record (component whole part Host) { class = class }) ≡ true
     go Source e = refl
     go Transform e = refl
     go Sink e = cc

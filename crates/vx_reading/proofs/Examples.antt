@@ -12,11 +12,12 @@ use Rattle.vx_plan.specs.Components.{acknowledges, stages}
 use Rattle.vx_plan.specs.First.{first_configuration, first_plan}
 use Rattle.vx_codec.specs.declared.codec.Codec.TheVariants as codec
 use Rattle.vx_codec.specs.declared.decoding.Decoding.TheVariants as decoding
+use Rattle.vx_plan.specs.declared.class.Class.TheVariants.{Transform}
 use Rattle.vx_plan.specs.declared.component.Component.{Component}
 use Rattle.vx_plan.specs.declared.compression.Compression.TheVariants as compression
 use Rattle.vx_plan.specs.declared.read_from.ReadFrom.TheVariants.{Beginning}
 use Rattle.vx_plan.specs.declared.settings.Settings.{Settings}
-use Rattle.vx_plan.specs.declared.settings.Settings.TheVariants.{FileIn, DemoLogs, Reduce, FileOut, Blackhole}
+use Rattle.vx_plan.specs.declared.settings.Settings.TheVariants.{FileIn, DemoLogs, Reduce, Host, FileOut, Blackhole}
 use Rattle.vx_plan.specs.declared.sink_settings.SinkSettings.{SinkSettings}
 use Rattle.vx_plan.specs.declared.when_full.WhenFull.TheVariants.{Block, Overflow}
 use Rattle.vx_reading.specs.Diagnostics.{diagnostics, found, global_owner, precedes}
@@ -450,3 +451,24 @@ no_strategy = refl
 
 strategies_as_text : diagnostics (merging (member (codes "merge_strategies") (string (codes "sum")) reduce_type)) ≡ transform_fault (codes "merge_strategies") ∷ []
 strategies_as_text = refl
+
+-- a document whose one transform is handed in
+abbrev handing : Members → Data
+handing options = one_option (codes "transforms") (one_option (codes "t") (table options))
+
+abbrev host_options : Members
+host_options = member (codes "inputs") (array (item (string (codes "in")) no_items)) (member (codes "type") (string (codes "host")) no_members)
+
+-- it has a name and inputs, and no options
+whole_host : (diagnostics (handing host_options) ≡ [])
+    × ((plan_of (handing host_options)).components ≡ record { name = codes "t"; class = Transform; inputs = codes "in" ∷ []; settings = Host } ∷ [])
+whole_host = (refl, refl)
+
+option_of_host : diagnostics (handing (member (codes "condition") (string (codes "exists(.a)")) host_options))
+    ≡ found (record { section = 2; name = codes "t" }) (codes "transforms.t.condition") UnknownOption ∷ []
+option_of_host = refl
+
+-- no source is handed in
+host_as_source : diagnostics (one_option (codes "sources") (one_option (codes "s") (one_option (codes "type") (string (codes "host")))))
+    ≡ found (record { section = 1; name = codes "s" }) (codes "sources.s.type") UnknownKind ∷ []
+host_as_source = refl

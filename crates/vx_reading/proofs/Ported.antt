@@ -1,4 +1,4 @@
--- Each component of a plan that was read works with a port, or is a transform that picks or merges, a source that makes its lines, or
+-- Each component of a plan that was read works with a port, or is a transform that picks or merges or is handed in, a source that makes its lines, or
 -- a sink that writes nothing.
 use Rattle.std.proofs.Common.{◌≡◌, ◌≤◌, inl, inr, Bool, true, List, [], ◌∷◌, ◌++◌, length, false, Option, Some, None, Ok, refl, sym, ap, subst, ◌∙◌, arith}
 use Rattle.std.specs.Prelude.{◌&&◌, ◌||◌, nat_le}
@@ -13,7 +13,7 @@ use Rattle.vx_plan.specs.declared.global.Global.{Global}
 use Rattle.vx_plan.specs.declared.plan.Plan.{Plan}
 use Rattle.vx_plan.proofs.Tests.{and_made}
 use Rattle.vx_reading.specs.declared.kind.Kind.{Kind}
-use Rattle.vx_reading.specs.declared.kind.Kind.TheVariants.{Stdin, FileIn, DemoLogs, Filter, Route, Sample, Dedupe, Reduce, Console, FileOut, Blackhole}
+use Rattle.vx_reading.specs.declared.kind.Kind.TheVariants.{Stdin, FileIn, DemoLogs, Filter, Route, Sample, Dedupe, Reduce, Host, Console, FileOut, Blackhole}
 use Rattle.vx_reading.specs.Components.{Part, parts, kind_of}
 use Rattle.vx_reading.specs.Diagnostics.{diagnostics}
 use Rattle.vx_reading.specs.Made.{is_made}
@@ -65,19 +65,19 @@ kind_made whole part Route same few lines = go part.class same
   where
     go : (class : Class) → same_class Transform class ≡ true → is_made (record (component whole part Route) { class = class }) ≡ true
     go Source e = cc
-    go Transform e = ap (λ (b : Bool). b || false || false || false) (few_observed (length (ways_of part.value)) (few refl))
+    go Transform e = ap (λ (b : Bool). b || false || false || false || false) (few_observed (length (ways_of part.value)) (few refl))
     go Sink e = cc
 kind_made whole part Sample same few lines = go part.class same
   where
     go : (class : Class) → same_class Transform class ≡ true → is_made (record (component whole part Sample) { class = class }) ≡ true
     go Source e = cc
-    go Transform e = ap (λ (b : Bool). b || false || false || false) (some_observed (rate_of part.value) (rate_some part.value))
+    go Transform e = ap (λ (b : Bool). b || false || false || false || false) (some_observed (rate_of part.value) (rate_some part.value))
     go Sink e = cc
 kind_made whole part Dedupe same few lines = go part.class same
   where
     go : (class : Class) → same_class Transform class ≡ true → is_made (record (component whole part Dedupe) { class = class }) ≡ true
     go Source e = cc
-    go Transform e = ap (λ (b : Bool). b || false || false || false) (and_made (nat_le 1 (keys_of part.value)) (nat_le (keys_of part.value) 1000000) (some_observed (keys_of part.value) (keys_some part.value)) (most_observed (keys_of part.value) (keys_few part.value)))
+    go Transform e = ap (λ (b : Bool). b || false || false || false || false) (and_made (nat_le 1 (keys_of part.value)) (nat_le (keys_of part.value) 1000000) (some_observed (keys_of part.value) (keys_some part.value)) (most_observed (keys_of part.value) (keys_few part.value)))
     go Sink e = cc
 kind_made whole part Reduce same few lines = go part.class same
   where
@@ -89,7 +89,13 @@ kind_made whole part Reduce same few lines = go part.class same
 
     go : (class : Class) → same_class Transform class ≡ true → is_made (record (component whole part Reduce) { class = class }) ≡ true
     go Source e = cc
-    go Transform e = ap (λ (b : Bool). b || false || false) (and_made expire flush (expire_observed part.value) (flush_observed part.value))
+    go Transform e = ap (λ (b : Bool). b || false || false || false) (and_made expire flush (expire_observed part.value) (flush_observed part.value))
+    go Sink e = cc
+kind_made whole part Host same few lines = go part.class same
+  where
+    go : (class : Class) → same_class Transform class ≡ true → is_made (record (component whole part Host) { class = class }) ≡ true
+    go Source e = cc
+    go Transform e = refl
     go Sink e = cc
 kind_made whole part Console same few lines = go part.class same
   where

@@ -5,7 +5,7 @@ use Rattle.toml.specs.Data.{Data, get, as_str}
 use Rattle.vx_plan.specs.declared.class.Class.{Class}
 use Rattle.vx_plan.specs.declared.class.Class.TheVariants.{Source, Transform, Sink}
 use Rattle.vx_reading.specs.declared.kind.Kind.{Kind}
-use Rattle.vx_reading.specs.declared.kind.Kind.TheVariants.{Stdin, FileIn, DemoLogs, Filter, Route, Sample, Dedupe, Reduce, Console, FileOut, Blackhole}
+use Rattle.vx_reading.specs.declared.kind.Kind.TheVariants.{Stdin, FileIn, DemoLogs, Filter, Route, Sample, Dedupe, Reduce, Host, Console, FileOut, Blackhole}
 use Rattle.vx_reading.specs.Judging.{Pair, pairs_in}
 use Rattle.vx_reading.specs.Options.{dot, kind_named}
 pub use Rattle.vx_reading.specs.Options.{is_name_byte, is_name}
@@ -66,7 +66,7 @@ kind_of part = option_and_then (kind_named part.class) (option_and_then as_str (
 
 -- whether it reads standard input
 abbrev pub reads_stdin : Part → Bool
-reads_stdin part = elim (kind_of part) [ None ↦ false | Some kind ↦ elim kind [ Stdin ↦ true | FileIn ↦ false | DemoLogs ↦ false | Filter ↦ false | Route ↦ false | Sample ↦ false | Dedupe ↦ false | Reduce ↦ false | Console ↦ false | FileOut ↦ false | Blackhole ↦ false ] ]
+reads_stdin part = elim (kind_of part) [ None ↦ false | Some kind ↦ elim kind [ Stdin ↦ true | FileIn ↦ false | DemoLogs ↦ false | Filter ↦ false | Route ↦ false | Sample ↦ false | Dedupe ↦ false | Reduce ↦ false | Host ↦ false | Console ↦ false | FileOut ↦ false | Blackhole ↦ false ] ]
 
 -- the name of the first component that reads standard input
 abbrev pub first_stdin : Data → Option ByteString

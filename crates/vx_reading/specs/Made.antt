@@ -4,7 +4,7 @@ use Rattle.std.specs.List.{list_all}
 use Rattle.vx_value.specs.Texts.{ByteString, is_empty}
 use Rattle.vx_plan.specs.declared.component.Component.{Component}
 use Rattle.vx_plan.specs.declared.settings.Settings.{Settings}
-use Rattle.vx_plan.specs.declared.settings.Settings.TheVariants.{DemoLogs, Filter, Route, Sample, Dedupe, Reduce, Blackhole}
+use Rattle.vx_plan.specs.declared.settings.Settings.TheVariants.{DemoLogs, Filter, Route, Sample, Dedupe, Reduce, Host, Blackhole}
 use Rattle.vx_plan.specs.Components.{is_source, is_transform, is_sink}
 use Rattle.vx_plan.specs.Options.{has_device}
 use Rattle.vx_reading.specs.Options.{most_period}
@@ -28,6 +28,11 @@ is_merging (Reduce group_by starts_when ends_when expire flush strategies) =
     (nat_le 1 expire && nat_le expire most_period) && (nat_le 1 flush && nat_le flush most_period)
 is_merging other = false
 
+-- whether options are those of a transform that is handed in
+abbrev pub is_hosted : Settings → Bool
+is_hosted Host = true
+is_hosted other = false
+
 -- whether a text has no line feed
 abbrev pub is_unbroken : ByteString → Bool
 is_unbroken text = list_all (λ byte. not (byte == 10)) text
@@ -45,4 +50,4 @@ is_blackhole other = false
 -- a component works with a port, or is such a transform, such a source or such a sink
 abbrev pub is_made : Component → Bool
 is_made c =
-    is_ported c || (is_transform c && is_picking c.settings) || (is_transform c && is_merging c.settings) || (is_source c && is_generating c.settings) || (is_sink c && is_blackhole c.settings)
+    is_ported c || (is_transform c && is_picking c.settings) || (is_transform c && is_merging c.settings) || (is_transform c && is_hosted c.settings) || (is_source c && is_generating c.settings) || (is_sink c && is_blackhole c.settings)

@@ -6,7 +6,7 @@ use Rattle.vx_plan.specs.declared.class.Class.{Class}
 use Rattle.vx_plan.specs.declared.class.Class.TheVariants.{Source, Transform, Sink}
 pub use Rattle.vx_plan.specs.Accepted.{same_class}
 use Rattle.vx_reading.specs.declared.kind.Kind.{Kind}
-use Rattle.vx_reading.specs.declared.kind.Kind.TheVariants.{Stdin, FileIn, DemoLogs, Filter, Route, Sample, Dedupe, Reduce, Console, FileOut, Blackhole}
+use Rattle.vx_reading.specs.declared.kind.Kind.TheVariants.{Stdin, FileIn, DemoLogs, Filter, Route, Sample, Dedupe, Reduce, Host, Console, FileOut, Blackhole}
 use Rattle.vx_reading.specs.Strategies.{hows, how_name}
 
 -- where an option stands in a table: by itself; in a table of its own, whose name comes first; in either way, by itself under the
@@ -310,6 +310,7 @@ rows_of Route = type_row ∷ inputs_row ∷ route_row ∷ reroute_row ∷ []
 rows_of Sample = type_row ∷ inputs_row ∷ rate_row ∷ exclude_row ∷ []
 rows_of Dedupe = type_row ∷ inputs_row ∷ match_row ∷ ignore_row ∷ keys_row ∷ []
 rows_of Reduce = type_row ∷ inputs_row ∷ group_by_row ∷ starts_row ∷ ends_row ∷ expire_row ∷ flush_row ∷ strategies_row ∷ []
+rows_of Host = type_row ∷ inputs_row ∷ []
 rows_of Console = type_row ∷ inputs_row ∷ target_row ∷ codec_row ∷ acknowledgements_row ∷ buffer_row ∷ batch_events_row ∷ batch_timeout_row ∷ retries_row ∷ first_wait_row ∷ longest_wait_row ∷ []
 rows_of FileOut = type_row ∷ inputs_row ∷ path_row ∷ compression_row ∷ codec_row ∷ acknowledgements_row ∷ buffer_row ∷ batch_events_row ∷ batch_timeout_row ∷ retries_row ∷ first_wait_row ∷ longest_wait_row ∷ []
 rows_of Blackhole = type_row ∷ inputs_row ∷ print_interval_row ∷ acknowledgements_row ∷ buffer_row ∷ batch_events_row ∷ batch_timeout_row ∷ retries_row ∷ first_wait_row ∷ longest_wait_row ∷ []
@@ -327,7 +328,7 @@ exclusion_of other = None
 
 -- the types, each with the table in which it stands and its name
 abbrev pub kinds : List Kind
-kinds = Stdin ∷ FileIn ∷ DemoLogs ∷ Filter ∷ Route ∷ Sample ∷ Dedupe ∷ Reduce ∷ Console ∷ FileOut ∷ Blackhole ∷ []
+kinds = Stdin ∷ FileIn ∷ DemoLogs ∷ Filter ∷ Route ∷ Sample ∷ Dedupe ∷ Reduce ∷ Host ∷ Console ∷ FileOut ∷ Blackhole ∷ []
 
 abbrev pub kind_class : Kind → Class
 kind_class Stdin = Source
@@ -338,6 +339,7 @@ kind_class Route = Transform
 kind_class Sample = Transform
 kind_class Dedupe = Transform
 kind_class Reduce = Transform
+kind_class Host = Transform
 kind_class Console = Sink
 kind_class FileOut = Sink
 kind_class Blackhole = Sink
@@ -351,6 +353,7 @@ kind_name Route = codes "route"
 kind_name Sample = codes "sample"
 kind_name Dedupe = codes "dedupe"
 kind_name Reduce = codes "reduce"
+kind_name Host = codes "host"
 kind_name Console = codes "console"
 kind_name FileOut = codes "file"
 kind_name Blackhole = codes "blackhole"

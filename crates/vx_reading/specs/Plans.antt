@@ -24,7 +24,7 @@ use Rattle.vx_plan.specs.declared.settings.Settings.TheVariants as settings
 use Rattle.vx_plan.specs.declared.sink_settings.SinkSettings.{SinkSettings}
 pub use Rattle.vx_plan.specs.Graphs.{nodes_of}
 use Rattle.vx_reading.specs.declared.kind.Kind.{Kind}
-use Rattle.vx_reading.specs.declared.kind.Kind.TheVariants.{Stdin, FileIn, DemoLogs, Filter, Route, Sample, Dedupe, Reduce, Console, FileOut, Blackhole}
+use Rattle.vx_reading.specs.declared.kind.Kind.TheVariants.{Stdin, FileIn, DemoLogs, Filter, Route, Sample, Dedupe, Reduce, Host, Console, FileOut, Blackhole}
 use Rattle.vx_reading.specs.Components.{Part, parts, kind_of}
 use Rattle.vx_reading.specs.Judging.{Pair, pairs_in, items_in, whole_in, path_spelled}
 use Rattle.vx_reading.specs.Options.{most_length, most_whole, most_keys, most_period, most_print_interval, most_batch, most_seconds}
@@ -268,6 +268,7 @@ settings_of global value Sample = settings.Sample (rate_of value) (condition_giv
 settings_of global value Dedupe = settings.Dedupe (fields_of value) (keys_of value)
 settings_of global value Reduce =
     settings.Reduce (group_by_of value) (condition_given (codes "starts_when") value) (condition_given (codes "ends_when") value) (expire_of value) (flush_of value) (strategies_of value)
+settings_of global value Host = settings.Host
 settings_of global value Console =
     settings.Console (target_named (text_at (codes "target") value)) (codec_named (text_within (codes "encoding") (codes "codec") value)) (sink_of global value)
 settings_of global value FileOut =
@@ -285,6 +286,7 @@ inputs_for Route value = inputs_of value
 inputs_for Sample value = inputs_of value
 inputs_for Dedupe value = inputs_of value
 inputs_for Reduce value = inputs_of value
+inputs_for Host value = inputs_of value
 inputs_for Console value = inputs_of value
 inputs_for FileOut value = inputs_of value
 inputs_for Blackhole value = inputs_of value

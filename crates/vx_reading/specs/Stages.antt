@@ -7,7 +7,7 @@ use Rattle.vx_plan.specs.declared.stage.Stage.{Stage}
 use Rattle.vx_plan.specs.declared.when_full.WhenFull.{WhenFull}
 use Rattle.vx_plan.specs.declared.when_full.WhenFull.TheVariants.{Block, DropNewest, Overflow}
 use Rattle.vx_reading.specs.declared.kind.Kind.{Kind}
-use Rattle.vx_reading.specs.declared.kind.Kind.TheVariants.{Stdin, FileIn, DemoLogs, Filter, Route, Sample, Dedupe, Reduce, Console, FileOut, Blackhole}
+use Rattle.vx_reading.specs.declared.kind.Kind.TheVariants.{Stdin, FileIn, DemoLogs, Filter, Route, Sample, Dedupe, Reduce, Host, Console, FileOut, Blackhole}
 use Rattle.vx_reading.specs.Components.{Part, kind_of}
 use Rattle.vx_reading.specs.Judging.{whole_in, stages_in}
 use Rattle.vx_reading.specs.Options.{most_capacity}
@@ -26,6 +26,7 @@ stages_for Route value = []
 stages_for Sample value = []
 stages_for Dedupe value = []
 stages_for Reduce value = []
+stages_for Host value = []
 stages_for Console value = stages_of value
 stages_for FileOut value = stages_of value
 stages_for Blackhole value = stages_of value
@@ -80,6 +81,7 @@ room_for Route value = 0
 room_for Sample value = 0
 room_for Dedupe value = 0
 room_for Reduce value = 0
+room_for Host value = 0
 room_for Console value = capacity_in (buffer_of value)
 room_for FileOut value = capacity_in (buffer_of value)
 room_for Blackhole value = capacity_in (buffer_of value)

@@ -17,6 +17,8 @@ pub(crate) enum Kind {
     Dedupe,
     /// A transform that merges events into groups.
     Reduce,
+    /// A transform that is handed in.
+    Host,
     /// A sink that writes to standard output or standard error.
     Console,
     /// A sink that appends to a file.

@@ -261,6 +261,9 @@ static REDUCE_ROWS: [Row; 8] = [
     },
 ];
 
+/// The options of a transform that is handed in.
+static HOST_ROWS: [Row; 2] = [TYPE_ROW, INPUTS_ROW];
+
 /// How many stages a buffer may have.
 const MOST_STAGES: usize = 8;
 
@@ -422,6 +425,7 @@ pub(crate) fn rows_of(kind: Kind) -> &'static [Row]
         Kind::Sample => &SAMPLE_ROWS,
         Kind::Dedupe => &DEDUPE_ROWS,
         Kind::Reduce => &REDUCE_ROWS,
+        Kind::Host => &HOST_ROWS,
         Kind::Console => &CONSOLE_ROWS,
         Kind::FileOut => &FILE_OUT_ROWS,
         Kind::Blackhole => &BLACKHOLE_ROWS,
@@ -465,6 +469,7 @@ pub(crate) fn kind_named(class: Class, name: &str) -> Option<Kind>
         Class::Transform if same_text("sample", name) => Some(Kind::Sample),
         Class::Transform if same_text("dedupe", name) => Some(Kind::Dedupe),
         Class::Transform if same_text("reduce", name) => Some(Kind::Reduce),
+        Class::Transform if same_text("host", name) => Some(Kind::Host),
         Class::Sink if same_text("console", name) => Some(Kind::Console),
         Class::Sink if same_text("file", name) => Some(Kind::FileOut),
         Class::Sink if same_text("blackhole", name) => Some(Kind::Blackhole),

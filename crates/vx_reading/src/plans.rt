@@ -160,6 +160,7 @@ fn inputs_for(alloc: Allocator, kind: Kind, table: &Value) -> Result<TextList, W
         | Kind::Sample
         | Kind::Dedupe
         | Kind::Reduce
+        | Kind::Host
         | Kind::Console
         | Kind::FileOut
         | Kind::Blackhole => inputs_of(alloc, table),
@@ -511,6 +512,7 @@ fn settings_of(
             flush_period_ms: whole_at("flush_period_ms", 1, MOST_PERIOD, 1_000, table),
             merge_strategies: strategies_of(alloc, table)?,
         }),
+        Kind::Host => Ok(Settings::Host),
         Kind::Console => Ok(Settings::Console {
             target: target_named(text_at("target", table)),
             encoding_codec: codec_named(text_within("encoding", "codec", table)),

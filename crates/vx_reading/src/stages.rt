@@ -41,7 +41,8 @@ pub(crate) fn stages_for(kind: Kind, table: &Value) -> &[Value]
         | Kind::Route
         | Kind::Sample
         | Kind::Dedupe
-        | Kind::Reduce => &[],
+        | Kind::Reduce
+        | Kind::Host => &[],
         Kind::Console | Kind::FileOut | Kind::Blackhole => stages_of(table),
     }
 }
@@ -168,7 +169,8 @@ fn room_of(alloc: Global, part: Part<'_>) -> Result<u64, WantOfMemory>
             | Kind::Route
             | Kind::Sample
             | Kind::Dedupe
-            | Kind::Reduce,
+            | Kind::Reduce
+            | Kind::Host,
         )
         | None => Ok(0),
     }

@@ -3,6 +3,7 @@ ghost use Rattle.std.specs.Prelude.{◌≡◌, ◌<◌, ◌≤◌, ℕ, length, 
 ghost use Rattle.vx_record.specs.Installs.{sink_at};
 ghost use Rattle.vx_record.specs.Ready.{IsTickReady, source_waits as source_waits_at, sink_waits as sink_waits_at, waits_until as waits_until_at};
 ghost use Rattle.vx_tasks.specs.Joining.{joins_at};
+ghost use Rattle.vx_keeping.specs.Keeping.{RunsHost};
 ghost use Rattle.vx_moves.specs.Keepers.{CanAnswer, IsKeeper};
 ghost use Rattle.vx_moves.specs.Stands.{Stands};
 ghost use Rattle.vx_ready.specs.Asking.{IsServed, IsSettled, IsOpen};
@@ -14,6 +15,7 @@ use crate::jobs::{is_open, is_settled};
 use crate::sources::{either, gives_more, is_sent};
 use vx_ends::Port;
 use vx_instances::Batching;
+use vx_keeping::Hosts;
 use vx_moves::EngineState;
 use vx_plan::Class;
 
@@ -42,9 +44,10 @@ pub fn waits_until<P: Port>(engine: &EngineState<P>, i: u32) -> Option<u64>
     }
 }
 
-/// The moment of the next check of an unleased instance that merges and holds a group, in milliseconds: from then on it is to act by
-/// itself. `None` of any other instance, and where it took something that it hasn't answered, or not all that it put out is on its way.
-pub fn checks_at<P: Port>(engine: &EngineState<P>, i: u32) -> Option<u64>
+/// The moment, in milliseconds, from which on an unleased instance that merges is to act by itself: the next check of a reduce that
+/// holds a group. When a transform acts that the program hands in, that one says alone. `None` of any other instance, and where it took
+/// something that it hasn't answered, or not all that it put out is on its way.
+pub fn checks_at<P: Port, H: Hosts>(engine: &EngineState<P>, hosts: &H, i: u32) -> Option<u64>
     requires stands { Stands P.observed engine.now }
     requires within { i < length engine.now.states }
     ensures due { IfSome result
@@ -54,7 +57,8 @@ pub fn checks_at<P: Port>(engine: &EngineState<P>, i: u32) -> Option<u64>
     ensures open { IfSome result (λ moment. IsOpen engine.now i) }
     ensures only { IsSettled engine.now i → IsOpen engine.now i →
         joins_at engine.now.log i ≡ true → IsKeeper CanAnswer engine.now.keepers.items i →
-        (now : ℕ) → IsTickReady engine.now.log i now → IsSomeAnd result (λ moment. moment ≤ now) }
+        (RunsHost engine.now.log i → ⊥) → (now : ℕ) → IsTickReady engine.now.log i now →
+        IsSomeAnd result (λ moment. moment ≤ now) }
 {
     if !is_settled(engine, i) {
         return None;
@@ -68,7 +72,7 @@ pub fn checks_at<P: Port>(engine: &EngineState<P>, i: u32) -> Option<u64>
     if !is_sent(engine, i) {
         return None;
     }
-    engine.check_due(i)
+    engine.check_due(hosts, i)
 }
 
 /// The moment from which on a source may be read, if it can be once it has rested.

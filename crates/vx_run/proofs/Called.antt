@@ -13,10 +13,10 @@ use Rattle.vx_plan.specs.declared.plan.Plan.{Plan}
 use Rattle.vx_ends.specs.declared.port_spec.PortSpec.{PortSpec}
 use Rattle.vx_record.specs.Records.{Record}
 use Rattle.vx_cli.specs.declared.fault.Fault.{Fault}
-use Rattle.vx_cli.specs.declared.fault.Fault.TheVariants.{Usage, ConfigRead, ConfigRefused, Numbers, SourceFailed, ConfirmFailed, PrintFailed, WantOfMemory}
+use Rattle.vx_cli.specs.declared.fault.Fault.TheVariants.{Usage, ConfigRead, ConfigRefused, UnknownHost, Numbers, SourceFailed, ConfirmFailed, PrintFailed, WantOfMemory}
 use Rattle.vx_cli.specs.Commands.{IsCommand, IsRun, has_once}
 use Rattle.vx_cli.specs.declared.command.Command.TheVariants.{Validate}
-use Rattle.vx_run.specs.Answers.{IsJudged, IsPlanAt, IsUnready}
+use Rattle.vx_run.specs.Answers.{CannotBegin, IsJudged, IsPlanAt}
 use Rattle.vx_run.specs.Calling.{HasAskedFirst, HasBegun, HasCalled, HasCalledFor, HasReadNamed, call_of, port_calls, run_calls}
 use Rattle.vx_hub.specs.declared.parts.Numbered.{Numbered}
 use Rattle.vx_run.specs.Running.{IsInForce, NoneMissing}
@@ -105,6 +105,7 @@ pub read_for : (environment : List Variable) (texts : Option (List ConfigAt)) (o
 read_for environment texts once file old new Usage grew = grew
 read_for environment texts once file old new (ConfigRead path) grew = grew
 read_for environment texts once file old new (ConfigRefused fault) grew = grew
+read_for environment texts once file old new (UnknownHost name) grew = grew
 read_for environment texts once file old new (Numbers next wanted) grew = grew
 read_for environment texts once file old new (SourceFailed name at) grew = grew
 read_for environment texts once file old new (ConfirmFailed name) grew = grew
@@ -122,22 +123,24 @@ called_all words environment texts file plan old new h (Some WantOfMemory) asked
 called_all words environment texts file plan old new h (Some Usage) asked stands judged is grew = absurd judged
 called_all words environment texts file plan old new h (Some (ConfigRead path)) asked stands judged is grew = absurd judged
 called_all words environment texts file plan old new h (Some (ConfigRefused fault)) asked stands judged is grew = absurd judged
+called_all words environment texts file plan old new h (Some (UnknownHost name)) asked stands judged is grew = absurd judged
 called_all words environment texts file plan old new h (Some (Numbers next wanted)) asked stands judged is grew = record { file = file; asked = asked; plan = plan; installed = is.installed; calls = grew }
 called_all words environment texts file plan old new h (Some PrintFailed) asked stands judged is grew = absurd judged
 called_all words environment texts file plan old new h (Some (SourceFailed name at)) asked stands judged is grew = record { file = file; asked = asked; plan = plan; installed = is.installed; calls = grew }
 called_all words environment texts file plan old new h (Some (ConfirmFailed name)) asked stands judged is grew = record { file = file; asked = asked; plan = plan; installed = is.installed; calls = grew }
 
 -- one that didn't begin asked for what there was to ask
-pub called_unready : (words : List ByteString) (environment : List Variable) (texts : Option (List ConfigAt)) (file : ByteString) (before now : ℕ) (old new : Option (List Call)) (h : Record) (fault : Fault) → h ≡ [] →
-    IsRun words file → IsUnready environment texts file before now fault → HasCalledFor environment texts (has_once words) file old new fault → HasCalled words environment texts old new h (Some fault)
-called_unready words environment texts file before now old new h Usage unbegun asked unready called = absurd unready
-called_unready words environment texts file before now old new h (ConfigRead path) unbegun asked unready called = record { file = file; asked = inl asked; calls = called }
-called_unready words environment texts file before now old new h (ConfigRefused fault) unbegun asked unready called = record { file = file; asked = inl asked; calls = called }
-called_unready words environment texts file before now old new h (Numbers next wanted) unbegun asked unready called = absurd unready
-called_unready words environment texts file before now old new h (SourceFailed name at) unbegun asked unready called = absurd unready
-called_unready words environment texts file before now old new h (ConfirmFailed name) unbegun asked unready called = absurd unready
-called_unready words environment texts file before now old new h PrintFailed unbegun asked unready called = absurd unready
-called_unready words environment texts file before now old new h WantOfMemory unbegun asked unready called = inr (inr (inl (record { unbegun = unbegun; file = file; asked = asked; begun = called })))
+pub called_unready : (words : List ByteString) (environment : List Variable) (names : List ByteString) (texts : Option (List ConfigAt)) (file : ByteString) (before now : ℕ) (old new : Option (List Call)) (h : Record) (fault : Fault) → h ≡ [] →
+    IsRun words file → CannotBegin environment names texts file before now fault → HasCalledFor environment texts (has_once words) file old new fault → HasCalled words environment texts old new h (Some fault)
+called_unready words environment names texts file before now old new h Usage unbegun asked unready called = absurd unready
+called_unready words environment names texts file before now old new h (ConfigRead path) unbegun asked unready called = record { file = file; asked = inl asked; calls = called }
+called_unready words environment names texts file before now old new h (ConfigRefused fault) unbegun asked unready called = record { file = file; asked = inl asked; calls = called }
+called_unready words environment names texts file before now old new h (UnknownHost name) unbegun asked unready called = record { file = file; asked = inl asked; calls = called }
+called_unready words environment names texts file before now old new h (Numbers next wanted) unbegun asked unready called = absurd unready
+called_unready words environment names texts file before now old new h (SourceFailed name at) unbegun asked unready called = absurd unready
+called_unready words environment names texts file before now old new h (ConfirmFailed name) unbegun asked unready called = absurd unready
+called_unready words environment names texts file before now old new h PrintFailed unbegun asked unready called = absurd unready
+called_unready words environment names texts file before now old new h WantOfMemory unbegun asked unready called = inr (inr (inl (record { unbegun = unbegun; file = file; asked = asked; begun = called })))
 
 -- a judgement read its file, whatever it says
 pub called_judged : (words : List ByteString) (environment : List Variable) (texts : Option (List ConfigAt)) (file : ByteString) (was is : ℕ) (same : Type 0) (shown_before shown_now : Option ByteString) (before now : ℕ)
@@ -147,6 +150,7 @@ called_judged words environment texts file was is same shown_before shown_now be
 called_judged words environment texts file was is same shown_before shown_now before now old new h (Some PrintFailed) unbegun asked judged grew = inr (record { unbegun = unbegun; file = file; asked = asked; calls = grew })
 called_judged words environment texts file was is same shown_before shown_now before now old new h (Some (ConfigRead path)) unbegun asked judged grew = record { file = file; asked = inr asked; calls = grew }
 called_judged words environment texts file was is same shown_before shown_now before now old new h (Some (ConfigRefused fault)) unbegun asked judged grew = record { file = file; asked = inr asked; calls = grew }
+called_judged words environment texts file was is same shown_before shown_now before now old new h (Some (UnknownHost name)) unbegun asked judged grew = absurd judged.0
 called_judged words environment texts file was is same shown_before shown_now before now old new h (Some WantOfMemory) unbegun asked judged grew = inr (inl (record { unbegun = unbegun; file = file; asked = asked; calls = grew }))
 called_judged words environment texts file was is same shown_before shown_now before now old new h (Some Usage) unbegun asked judged grew = absurd judged.0
 called_judged words environment texts file was is same shown_before shown_now before now old new h (Some (Numbers next wanted)) unbegun asked judged grew = absurd judged.0
@@ -168,6 +172,7 @@ called_first words environment texts old new h ports None missing (inr read) = i
 called_first words environment texts old new h ports (Some Usage) missing called = inl (called, missing.0)
 called_first words environment texts old new h ports (Some (ConfigRead path)) missing called = read_first words environment texts old new h missing.0 called
 called_first words environment texts old new h ports (Some (ConfigRefused fault)) missing called = read_first words environment texts old new h missing.0 called
+called_first words environment texts old new h ports (Some (UnknownHost name)) missing called = read_first words environment texts old new h missing.0 called
 called_first words environment texts old new h ports (Some (Numbers next wanted)) missing called = inr (inr (inr called))
 called_first words environment texts old new h ports (Some (SourceFailed name at)) missing called = inr (inr (inr called))
 called_first words environment texts old new h ports (Some (ConfirmFailed name)) missing called = inr (inr (inr called))
@@ -183,6 +188,7 @@ called_kept words environment texts old new h ports fault (Some WantOfMemory) so
 called_kept words environment texts old new h ports fault (Some Usage) same missing called = subst (λ (f : Option Fault). HasCalled words environment texts old new h f) same called
 called_kept words environment texts old new h ports fault (Some (ConfigRead path)) same missing called = subst (λ (f : Option Fault). HasCalled words environment texts old new h f) same called
 called_kept words environment texts old new h ports fault (Some (ConfigRefused f)) same missing called = subst (λ (f : Option Fault). HasCalled words environment texts old new h f) same called
+called_kept words environment texts old new h ports fault (Some (UnknownHost name)) same missing called = subst (λ (f : Option Fault). HasCalled words environment texts old new h f) same called
 called_kept words environment texts old new h ports fault (Some (Numbers next wanted)) same missing called = subst (λ (f : Option Fault). HasCalled words environment texts old new h f) same called
 called_kept words environment texts old new h ports fault (Some (SourceFailed name at)) same missing called = subst (λ (f : Option Fault). HasCalled words environment texts old new h f) same called
 called_kept words environment texts old new h ports fault (Some (ConfirmFailed name)) same missing called = subst (λ (f : Option Fault). HasCalled words environment texts old new h f) same called

@@ -57,9 +57,11 @@ use Rattle.vx_cli.specs.Commands.{IsCommand, IsNoCommand, IsRun, has_once, has_s
 use Rattle.vx_cli.specs.declared.command.Command.{Command}
 use Rattle.vx_cli.specs.declared.command.Command.TheVariants.{Run, Validate}
 use Rattle.vx_cli.specs.declared.fault.Fault.{Fault}
-use Rattle.vx_cli.specs.declared.fault.Fault.TheVariants.{Usage, ConfigRead, ConfigRefused, Numbers, SourceFailed, ConfirmFailed, PrintFailed, WantOfMemory}
-use Rattle.vx_run.specs.Answers.{IsAnswer, IsRefused, WentOn}
-use Rattle.vx_run.specs.Completeness.{NoneFailed, NumbersSuffice, IsFaultless, IsRefusedAnew, HasEndedWell, PrintBlames, ErroredBlames, RejectedBlames, NoneDueAtEnd, has_failed, has_refused}
+use Rattle.vx_cli.specs.declared.fault.Fault.TheVariants.{Usage, ConfigRead, ConfigRefused, UnknownHost, Numbers, SourceFailed, ConfirmFailed, PrintFailed, WantOfMemory}
+use Rattle.vx_run.specs.Answers.{IsAnswer, IsRefused, IsUnhosted, WentOn}
+use Rattle.vx_run.specs.Hosting.{AllKnown, IsLeastUnknown}
+use Rattle.vx_run.specs.Completeness.{NoneFailed, NumbersSuffice, IsFaultless, IsHostless, IsRefusedAnew, HasEndedWell, PrintBlames, ErroredBlames, RejectedBlames, NoneDueAtEnd, has_failed, has_refused}
+use Rattle.vx_run.proofs.Hosted.{none_least}
 use Rattle.vx_run.specs.Running.{Began, HasAll, IsInstalled, IsOnlyJudged, IsUnbegun, NoneMissing}
 
 -- WHAT IS BLAMED
@@ -348,8 +350,9 @@ within_plan h plan i name legal force named = elim (below_or i (length plan.comp
   | inr beyond ↦ absurd (subst (λ (o : Option Component). IsSomeAnd o (λ (c : Component). name ≡ c.name)) (past plan h i legal force beyond) named)
 ]
 
-module _ {P : Type 0} (observe : P → Observation) (words : List ByteString) (environment : List Variable) (configs : List Config) (before now was is : ℕ) (h : Record) (ports : List (Numbered P))
+module _ {P : Type 0} (observe : P → Observation) (words : List ByteString) (environment : List Variable) (names : List ByteString) (configs : List Config) (before now was is : ℕ) (h : Record) (ports : List (Numbered P))
     (one : (all : List ByteString) (a b : Command) → IsCommand all a → IsCommand all b → a ≡ b) (apart : (all : List ByteString) (command : Command) → IsNoCommand all → IsCommand all command → ⊥)
+    (one_plan : (around : List Variable) (bytes : ByteString) (p q : Plan) → IsReading around bytes (Ok p) → IsReading around bytes (Ok q) → p ≡ q)
     (reads_apart : (around : List Variable) (bytes : ByteString) (plan : Plan) (fault : PlanFault) → NoneRefusable plan.components → IsReading around bytes (Ok plan) → IsReading around bytes (Err fault) → fault ≡ plan_fault.WantOfMemory)
     (faultless : IsFaultless observe words environment configs before now was is h ports) (legal : IsLegal h) (observed : AreObservedButGiven observe h ports) (numbers : AreNumbered 0 ports) where
   counts_none : (i : ℕ) (name : ByteString) → IsNameOf h i name → IsSomeAnd (in_force h) (HasAll ports) → fault_count h i ≡ 0
@@ -384,13 +387,24 @@ module _ {P : Type 0} (observe : P → Observation) (words : List ByteString) (e
       go (inl run) = same_text (same_file refused.file run)
       go (inr judge) = unjudging refused.file judge
 
-  pub answers_well : (fault : Option Fault) → IsAnswer words environment (Some configs) before now h fault → PrintBlames was is fault → NoneMissing words environment (Some configs) h ports fault →
-      (fault ≡ None) ⊎ ((fault ≡ Some WantOfMemory) ⊎ IsRefusedAnew faultless.plan.components fault)
+  -- a plan that the words' file stands for is that one
+  same_unknown : (name : ByteString) → IsUnhosted words environment names (Some configs) name → IsLeastUnknown names faultless.plan.components name
+  same_unknown name unhosted =
+      let stands = unhosted.unknown.stands in
+      let here : Some stands.bytes ≡ Some faultless.bytes = sym stands.text ∙ ap (text_at configs) (same_file unhosted.file unhosted.asked) ∙ faultless.text in
+      let bytes : stands.bytes ≡ faultless.bytes = cc in
+      let same : unhosted.unknown.plan ≡ faultless.plan =
+      one_plan environment faultless.bytes unhosted.unknown.plan faultless.plan (subst (λ (w : ByteString). IsReading environment w (Ok unhosted.unknown.plan)) bytes stands.read) faultless.read in
+      subst (λ (plan : Plan). IsLeastUnknown names plan.components name) same unhosted.unknown.unknown
+
+  pub answers_well : (fault : Option Fault) → IsAnswer words environment names (Some configs) before now h fault → PrintBlames was is fault → NoneMissing words environment (Some configs) h ports fault →
+      (fault ≡ None) ⊎ ((fault ≡ Some WantOfMemory) ⊎ (IsRefusedAnew faultless.plan.components fault ⊎ IsHostless names faultless.plan.components fault))
   answers_well None answer blames missing = inl refl
   answers_well (Some WantOfMemory) answer blames missing = inr (inl refl)
   answers_well (Some Usage) answer blames missing = absurd (apart words (Run faultless.file (has_once words) (has_stats words)) answer asked)
   answers_well (Some (ConfigRead path)) answer blames missing = absurd (faultless.reads answer.1)
-  answers_well (Some (ConfigRefused fault)) answer blames missing = inr (inr (λ sure. unrefused sure fault answer))
+  answers_well (Some (ConfigRefused fault)) answer blames missing = inr (inr (inl (λ sure. unrefused sure fault answer)))
+  answers_well (Some (UnknownHost name)) answer blames missing = inr (inr (inr (same_unknown name answer)))
   answers_well (Some (Numbers next wanted)) answer blames missing = absurd (numbers_suffice h next wanted legal answer faultless.numbers)
   answers_well (Some (SourceFailed name at)) answer blames missing =
       let lost = answer.1.1 in
@@ -401,9 +415,14 @@ module _ {P : Type 0} (observe : P → Observation) (words : List ByteString) (e
   answers_well (Some PrintFailed) (inl counted) blames missing = absurd (faultless.prints counted.0 (blames refl))
   answers_well (Some PrintFailed) (inr judged) blames missing = absurd (unjudging judged.0 judged.1)
 
+-- and where each transform is handed in, none is wanting
+pub hosted_well : (names : List ByteString) (components : List Component) (fault : Option Fault) → AllKnown names components → IsHostless names components fault → ⊥
+hosted_well names components (Some (UnknownHost name)) known lacks = none_least names components name known lacks.there
+hosted_well names components other known lacks = absurd lacks
+
 -- THE END
-module _ {P : Type 0} (observe : P → Observation) (words : List ByteString) (environment : List Variable) (configs : List Config) (before now was is : ℕ) (h : Record) (ports : List (Numbered P))
-    (one : (all : List ByteString) (a b : Command) → IsCommand all a → IsCommand all b → a ≡ b) (well : HasEndedWell observe words environment configs before now was is h ports) where
+module _ {P : Type 0} (observe : P → Observation) (words : List ByteString) (environment : List Variable) (names : List ByteString) (configs : List Config) (before now was is : ℕ) (h : Record) (ports : List (Numbered P))
+    (one : (all : List ByteString) (a b : Command) → IsCommand all a → IsCommand all b → a ≡ b) (well : HasEndedWell observe words environment names configs before now was is h ports) where
   unjudged : IsOnlyJudged words environment (Some configs) h → ⊥
   unjudged judged =
       let run : Command = Run well.faultless.file (has_once words) (has_stats words) in

@@ -12,7 +12,7 @@ use Rattle.vx_record.specs.declared.abandon_cause.AbandonCause.{AbandonCause}
 use Rattle.vx_record.specs.declared.abandon_cause.AbandonCause.TheVariants as cause
 use Rattle.vx_record.specs.declared.entry.Entry.TheVariants.{Abandon}
 use Rattle.vx_cli.specs.declared.fault.Fault.{Fault}
-use Rattle.vx_cli.specs.declared.fault.Fault.TheVariants.{Usage, ConfigRead, ConfigRefused, Numbers, SourceFailed, ConfirmFailed, PrintFailed, WantOfMemory}
+use Rattle.vx_cli.specs.declared.fault.Fault.TheVariants.{Usage, ConfigRead, ConfigRefused, UnknownHost, Numbers, SourceFailed, ConfirmFailed, PrintFailed, WantOfMemory}
 use Rattle.vx_run.specs.Answers.{IsJudged, NoneLost, AllConfirmed, WentOn}
 use Rattle.vx_run.specs.Judging.{IsNamed, IsUnconfirmedAt, IsUnasked, IsFaultOf}
 use Rattle.vx_run.proofs.Sources.{source_within, lost_source, unconfirmed_source}
@@ -38,6 +38,7 @@ pub judged_lost : (h : Record) (i at : ℕ) (fault : Fault) → WentOn h → los
 judged_lost h i at Usage goes lost least named = absurd named
 judged_lost h i at (ConfigRead path) goes lost least named = absurd named
 judged_lost h i at (ConfigRefused f) goes lost least named = absurd named
+judged_lost h i at (UnknownHost name) goes lost least named = absurd named
 judged_lost h i at (Numbers next wanted) goes lost least named = absurd named
 judged_lost h i at PrintFailed goes lost least named = absurd named
 judged_lost h i at (SourceFailed name n) goes lost least named = (goes, (i, record { lost = lost ∙ ap Some (sym named.0); least = least; named = named.1 }))
@@ -49,6 +50,7 @@ pub judged_unconfirmed : (h : Record) (i : ℕ) (fault : Fault) → WentOn h →
 judged_unconfirmed h i Usage goes kept failed least named = absurd named
 judged_unconfirmed h i (ConfigRead path) goes kept failed least named = absurd named
 judged_unconfirmed h i (ConfigRefused f) goes kept failed least named = absurd named
+judged_unconfirmed h i (UnknownHost name) goes kept failed least named = absurd named
 judged_unconfirmed h i (Numbers next wanted) goes kept failed least named = absurd named
 judged_unconfirmed h i PrintFailed goes kept failed least named = absurd named
 judged_unconfirmed h i (SourceFailed name n) goes kept failed least named = absurd named

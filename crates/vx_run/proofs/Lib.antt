@@ -1,5 +1,6 @@
 pub mod Sources
 pub mod Going
+pub mod Hosted
 pub mod Judged
 pub mod Prepared
 pub mod Reading

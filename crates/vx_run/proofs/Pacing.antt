@@ -155,6 +155,8 @@ module _ (Gave : ℕ → Type 0) where
   merges i now gave h (entry.Take j s copies) kind = tt
   merges i now gave h (entry.Tick j moment) kind = subst Gave (sym kind.1) gave
   merges i now gave h (entry.Answer j outputs discarded kept) kind = tt
+  merges i now gave h (entry.Spent j c outcome) kind = tt
+  merges i now gave h (entry.Notice b status) kind = tt
   merges i now gave h (entry.Home j) kind = tt
   merges i now gave h e kind = absurd kind
 

@@ -1,16 +1,28 @@
 -- What each component of a plan picks by or keeps, from the first to the last.
-use Rattle.std.proofs.Common.{◌≡◌, ◌∙◌, ℕ, zero, suc, ◌+◌, true, List, [], ◌∷◌, ◌++◌, take, drop, map, reverse, Option, Some, sym, ap, subst, arith}
-use Rattle.std.specs.Prelude.{slice_get, IfSome}
+use Rattle.std.proofs.Common.{◌≡◌, ◌∙◌, ℕ, zero, suc, ◌+◌, true, List, [], ◌∷◌, ◌++◌, take, drop, map, reverse, Option, Some, None, refl, sym, ap, subst, arith}
+use Rattle.std.specs.Prelude.{◌&&◌, slice_get, IfSome}
 use Rattle.std.specs.List.{list_all}
 use Rattle.std.proofs.lemmas.Bool.{and_parts}
 use Rattle.std.proofs.lemmas.List.{reverse-append}
 use Rattle.vx_value.specs.Texts.{ByteString}
 use Rattle.vx_plan.specs.declared.component.Component.{Component}
+use Rattle.vx_plan.specs.declared.settings.Settings.{Settings}
+use Rattle.vx_plan.specs.declared.settings.Settings.TheVariants as settings
+use Rattle.vx_plan.specs.Components.{is_transform}
+use Rattle.vx_record.specs.Records.{Record}
+use Rattle.vx_record.specs.Inputs.{inputs}
+use Rattle.vx_record.specs.Places.Place.{Held}
+use Rattle.vx_record.specs.Shifts.{at}
+use Rattle.vx_reduce.specs.declared.reduce_settings.ReduceSettings.{ReduceSettings}
+use Rattle.vx_tasks.specs.Joining.{is_joining}
 use Rattle.vx_pick.specs.declared.picker.Picker.{Picker}
 use Rattle.vx_reading.specs.Conditions.{conditions_by}
 use Rattle.vx_reading.specs.Made.{is_made}
 use Rattle.vx_keeping.specs.Kept.{Kept, copies_kept}
+use Rattle.vx_keeping.specs.Keeping.{Keeps, RunsHost, RunsWith}
 use Rattle.vx_hub.specs.Making.{IsPickerFor, ArePickers, IsSlotFor, AreSlots, AreBare}
+use Rattle.vx_hub.specs.Standing.{merges}
+use Rattle.vx_run.specs.Merging.{merging_of}
 
 -- the conditions from a component on
 lists_at : (cs : List Component) (i : ℕ) (c : Component) → slice_get cs i ≡ Some c → map conditions_by (drop i cs) ≡ conditions_by c ∷ map conditions_by (drop (suc i) cs)
@@ -82,3 +94,47 @@ pub made_at : (cs : List Component) (i : ℕ) (c : Component) → slice_get cs i
 made_at [] i c at all = cc
 made_at (d ∷ cs) zero c at all = let same : d ≡ c = cc in ap is_made (sym same) ∙ (and_parts (is_made d) (list_all is_made cs) all).0
 made_at (d ∷ cs) (suc i) c at all = made_at cs i c at (and_parts (is_made d) (list_all is_made cs) all).1
+
+-- what merges by some settings is a reduce by these
+reduce_is : (s : Settings) (r : ReduceSettings) → Some r ≡ merging_of s → s ≡ settings.Reduce r.group_by r.starts_when r.ends_when r.expire_after_ms r.flush_period_ms r.strategies
+reduce_is (settings.Reduce group_by starts_when ends_when expire flush strategies) r is =
+    let by : ReduceSettings = record {
+      group_by = group_by;
+      starts_when = starts_when;
+      ends_when = ends_when;
+      expire_after_ms = expire;
+      flush_period_ms = flush;
+      strategies = strategies;
+    } in
+    let same : by ≡ r = cc in
+    ap (λ (x : ReduceSettings). settings.Reduce x.group_by x.starts_when x.ends_when x.expire_after_ms x.flush_period_ms x.strategies) same
+reduce_is other r is = cc
+
+-- what merges by none is handed in
+host_is : (s : Settings) → is_joining s ≡ true → None ≡ merging_of s → s ≡ settings.Host
+host_is settings.Host joins none = refl
+host_is (settings.Reduce group_by starts_when ends_when expire flush strategies) joins none = cc
+host_is other joins none = cc
+
+-- so what each of them keeps as it begins is that of its component
+pub reduce_slot : (c : Component) (k : Kept) (r : ReduceSettings) → merges c ≡ true → Some r ≡ merging_of c.settings → k.fit ≡ true → k.discarded ≡ [] →
+    ((h : Record) (i : ℕ) → RunsWith h i r → inputs h i ≡ [] → at h (Held i) ≡ [] → Keeps k h i) → IsSlotFor c (Some k)
+reduce_slot c k r joins is fit cleared keeps =
+    let both = and_parts (is_transform c) (is_joining c.settings) joins in
+    record {
+      merging = joins;
+      fit = fit;
+      cleared = cleared;
+      keeps = λ h i runs given none. keeps h i (record { component = c; runs = runs; transform = both.0; set = reduce_is c.settings r is }) given none;
+    }
+
+pub host_slot : (c : Component) (k : Kept) → merges c ≡ true → None ≡ merging_of c.settings → k.fit ≡ true → k.discarded ≡ [] →
+    ((h : Record) (i : ℕ) → RunsHost h i → inputs h i ≡ [] → at h (Held i) ≡ [] → Keeps k h i) → IsSlotFor c (Some k)
+host_slot c k joins is fit cleared keeps =
+    let both = and_parts (is_transform c) (is_joining c.settings) joins in
+    record {
+      merging = joins;
+      fit = fit;
+      cleared = cleared;
+      keeps = λ h i runs given none. keeps h i (record { component = c; runs = runs; transform = both.0; set = host_is c.settings both.1 is }) given none;
+    }

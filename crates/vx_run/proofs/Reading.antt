@@ -7,7 +7,7 @@ use Rattle.vx_record.specs.Reads.{all_ended}
 use Rattle.vx_record.specs.Records.{Record}
 use Rattle.vx_hub.specs.Remains.{HasEnded}
 use Rattle.vx_cli.specs.declared.fault.Fault.{Fault}
-use Rattle.vx_cli.specs.declared.fault.Fault.TheVariants.{Usage, ConfigRead, ConfigRefused, Numbers, SourceFailed, ConfirmFailed, PrintFailed, WantOfMemory}
+use Rattle.vx_cli.specs.declared.fault.Fault.TheVariants.{Usage, ConfigRead, ConfigRefused, UnknownHost, Numbers, SourceFailed, ConfirmFailed, PrintFailed, WantOfMemory}
 use Rattle.vx_run.specs.Answers.{IsJudged, NoneLost, WentOn}
 use Rattle.vx_run.specs.Running.{AllRead, AllReadOrLost, IsReadOut}
 use Rattle.vx_run.proofs.Sources.{source_within, retired_more}
@@ -42,6 +42,7 @@ read_of h plan (Some WantOfMemory) ended force judged = λ goes. read_or_lost h 
 read_of h plan (Some Usage) ended force judged = λ goes. read_or_lost h plan ended force goes
 read_of h plan (Some (ConfigRead path)) ended force judged = λ goes. read_or_lost h plan ended force goes
 read_of h plan (Some (ConfigRefused f)) ended force judged = λ goes. read_or_lost h plan ended force goes
+read_of h plan (Some (UnknownHost name)) ended force judged = λ goes. read_or_lost h plan ended force goes
 read_of h plan (Some (Numbers next wanted)) ended force judged = λ goes. read_or_lost h plan ended force goes
 read_of h plan (Some PrintFailed) ended force judged = absurd judged
 read_of h plan (Some (SourceFailed name at)) ended force judged = read_or_lost h plan ended force judged.0
@@ -60,6 +61,7 @@ read_none h fault none = subst (λ (k : Record). IsReadOut k fault) (sym none) (
     empty (Some Usage) = λ goes i source. absurd (unsourced i source)
     empty (Some (ConfigRead path)) = λ goes i source. absurd (unsourced i source)
     empty (Some (ConfigRefused f)) = λ goes i source. absurd (unsourced i source)
+    empty (Some (UnknownHost name)) = λ goes i source. absurd (unsourced i source)
     empty (Some (Numbers next wanted)) = λ goes i source. absurd (unsourced i source)
     empty (Some PrintFailed) = λ i source. absurd (unsourced i source)
     empty (Some (SourceFailed name at)) = λ i source. absurd (unsourced i source)

@@ -18,7 +18,7 @@ use Rattle.vx_sourcecore.specs.Lines.{is_generating, is_blackhole}
 use Rattle.vx_tasks.specs.Joining.{is_joining}
 use Rattle.vx_ready.specs.Asking.{has_few_ports, is_judge, is_merger, is_generator, is_blackhole_sink}
 use Rattle.vx_hub.specs.Making.{is_served, all_served}
-use Rattle.vx_reading.specs.Made.{is_ported, is_picking, is_merging, is_generating as read_generating, is_blackhole as read_blackhole, is_made}
+use Rattle.vx_reading.specs.Made.{is_ported, is_picking, is_merging, is_hosted, is_generating as read_generating, is_blackhole as read_blackhole, is_made}
 
 le_test : (m n : ℕ) → m ≤ n → nat_le m n ≡ true
 le_test m n l = grind (arith, nat_tests)
@@ -52,16 +52,20 @@ merging_joins : (s : Settings) → is_merging s ≡ true → (is_joining s && no
 merging_joins (settings.Reduce group_by starts_when ends_when expire flush strategies) is = refl
 merging_joins other is = cc
 
-merger_of : (c : Component) (class : Class) → c.class ≡ class → is_transform c ≡ true → is_merging c.settings ≡ true → is_merger c ≡ true
-merger_of c Transform of transform merging =
-    let rest = merging_joins c.settings merging in
+-- and so does what is handed in
+hosted_joins : (s : Settings) → is_hosted s ≡ true → (is_joining s && not (has_device s) && nat_le (length (transform_ports s)) 65) ≡ true
+hosted_joins settings.Host is = refl
+hosted_joins other is = cc
+
+merger_of : (c : Component) (class : Class) → c.class ≡ class → is_transform c ≡ true → (is_joining c.settings && not (has_device c.settings) && nat_le (length (transform_ports c.settings)) 65) ≡ true → is_merger c ≡ true
+merger_of c Transform of transform rest =
     let names : port_names c ≡ transform_ports c.settings = ap (λ (k : Class). elim k [ Source ↦ [] ∷ [] | Transform ↦ transform_ports c.settings | Sink ↦ [] ]) of in
     ap (λ (b : Bool). b && is_joining c.settings && not (has_device c.settings) && has_few_ports c) transform
     ∙ ap (λ (ns : List _). is_joining c.settings && not (has_device c.settings) && nat_le (length ns) 65) names ∙ rest
-merger_of c Source of transform merging = cc
-merger_of c Sink of transform merging = cc
+merger_of c Source of transform rest = cc
+merger_of c Sink of transform rest = cc
 
--- one fact of five is also one of five others, if each is
+-- one fact of six is also one of five others, if each is
 either : (b d : Bool) → d ≡ true → (b || d) ≡ true
 either true d is = refl
 either false d is = is
@@ -69,13 +73,14 @@ either false d is = is
 first : (b d : Bool) → b ≡ true → (b || d) ≡ true
 first b d is = ap (λ (v : Bool). v || d) is
 
-one_of : (a b m c d y z w v : Bool) → (b ≡ true → y ≡ true) → (m ≡ true → v ≡ true) → (c ≡ true → z ≡ true) → (d ≡ true → w ≡ true) →
-    (a || b || m || c || d) ≡ true → (a || y || z || w || v) ≡ true
-one_of true b m c d y z w v f k g h is = refl
-one_of false true m c d y z w v f k g h is = first (y || z || w) v (first (y || z) w (first y z (f refl)))
-one_of false false true c d y z w v f k g h is = either (y || z || w) v (k refl)
-one_of false false false true d y z w v f k g h is = first (y || z || w) v (first (y || z) w (either y z (g refl)))
-one_of false false false false d y z w v f k g h is = first (y || z || w) v (either (y || z) w (h is))
+one_of : (a b m n c d y z w v : Bool) → (b ≡ true → y ≡ true) → (m ≡ true → v ≡ true) → (n ≡ true → v ≡ true) → (c ≡ true → z ≡ true) → (d ≡ true → w ≡ true) →
+    (a || b || m || n || c || d) ≡ true → (a || y || z || w || v) ≡ true
+one_of true b m n c d y z w v f k l g h is = refl
+one_of false true m n c d y z w v f k l g h is = first (y || z || w) v (first (y || z) w (first y z (f refl)))
+one_of false false true n c d y z w v f k l g h is = either (y || z || w) v (k refl)
+one_of false false false true c d y z w v f k l g h is = either (y || z || w) v (l refl)
+one_of false false false false true d y z w v f k l g h is = first (y || z || w) v (first (y || z) w (either y z (g refl)))
+one_of false false false false false d y z w v f k l g h is = first (y || z || w) v (either (y || z) w (h is))
 
 -- options that were read are those of a source that makes its lines, or of a sink that writes nothing
 generating : (s : Settings) → read_generating s ≡ true → is_generating s ≡ true
@@ -88,10 +93,11 @@ blackhole other is = cc
 
 made_serves : (c : Component) → is_made c ≡ true → is_served c ≡ true
 made_serves c made =
-    one_of (is_ported c) (is_transform c && is_picking c.settings) (is_transform c && is_merging c.settings) (is_source c && read_generating c.settings) (is_sink c && read_blackhole c.settings)
+    one_of (is_ported c) (is_transform c && is_picking c.settings) (is_transform c && is_merging c.settings) (is_transform c && is_hosted c.settings) (is_source c && read_generating c.settings) (is_sink c && read_blackhole c.settings)
     (is_judge c) (is_generator c) (is_blackhole_sink c) (is_merger c)
     (λ is. let both = and_parts (is_transform c) (is_picking c.settings) is in judge_of c c.class refl both.0 both.1)
-    (λ is. let both = and_parts (is_transform c) (is_merging c.settings) is in merger_of c c.class refl both.0 both.1)
+    (λ is. let both = and_parts (is_transform c) (is_merging c.settings) is in merger_of c c.class refl both.0 (merging_joins c.settings both.1))
+    (λ is. let both = and_parts (is_transform c) (is_hosted c.settings) is in merger_of c c.class refl both.0 (hosted_joins c.settings both.1))
     (λ is. let both = and_parts (is_source c) (read_generating c.settings) is in ap (λ (b : Bool). b && is_generating c.settings) both.0 ∙ generating c.settings both.1)
     (λ is. let both = and_parts (is_sink c) (read_blackhole c.settings) is in ap (λ (b : Bool). b && is_blackhole c.settings) both.0 ∙ blackhole c.settings both.1)
     made

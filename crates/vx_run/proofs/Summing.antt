@@ -18,9 +18,9 @@ use Rattle.vx_cli.specs.Commands.{IsCommand, IsRun, has_stats}
 use Rattle.vx_cli.specs.Summaries.{summary_line}
 use Rattle.vx_cli.specs.declared.command.Command.TheVariants.{Run, Validate}
 use Rattle.vx_cli.specs.declared.fault.Fault.{Fault}
-use Rattle.vx_cli.specs.declared.fault.Fault.TheVariants.{Usage, ConfigRead, ConfigRefused, Numbers, SourceFailed, ConfirmFailed, PrintFailed, WantOfMemory}
+use Rattle.vx_cli.specs.declared.fault.Fault.TheVariants.{Usage, ConfigRead, ConfigRefused, UnknownHost, Numbers, SourceFailed, ConfirmFailed, PrintFailed, WantOfMemory}
 use Rattle.vx_hub.specs.Reporting.{IsNameOf, IsClassOf}
-use Rattle.vx_run.specs.Answers.{AsksRun, AsksStats, ButForMemory, IsAnswer, IsUnready}
+use Rattle.vx_run.specs.Answers.{AsksRun, AsksStats, ButForMemory, CannotBegin, IsAnswer}
 use Rattle.vx_run.specs.Showing.{IsFollowed, IsShown, IsShownFirst, IsSummary, HasPrinted, IsUnprintedValid, IsUnprinted, is_summed, is_unready, line_of, lines_of, summary_for, summary_of}
 use Rattle.vx_hub.specs.declared.parts.Numbered.{Numbered}
 use Rattle.vx_plan.specs.declared.plan.Plan.{Plan}
@@ -64,6 +64,7 @@ summed_ready None is = refl
 summed_ready (Some Usage) is = cc
 summed_ready (Some (ConfigRead path)) is = cc
 summed_ready (Some (ConfigRefused f)) is = cc
+summed_ready (Some (UnknownHost name)) is = cc
 summed_ready (Some (Numbers next wanted)) is = refl
 summed_ready (Some (SourceFailed name at)) is = refl
 summed_ready (Some (ConfirmFailed name)) is = refl
@@ -105,6 +106,7 @@ keeps Holds fault None same short holds = subst Holds same holds
 keeps Holds fault (Some Usage) same short holds = subst Holds same holds
 keeps Holds fault (Some (ConfigRead path)) same short holds = subst Holds same holds
 keeps Holds fault (Some (ConfigRefused f)) same short holds = subst Holds same holds
+keeps Holds fault (Some (UnknownHost name)) same short holds = subst Holds same holds
 keeps Holds fault (Some (Numbers next wanted)) same short holds = subst Holds same holds
 keeps Holds fault (Some (SourceFailed name at)) same short holds = subst Holds same holds
 keeps Holds fault (Some (ConfirmFailed name)) same short holds = subst Holds same holds
@@ -122,6 +124,7 @@ read_short_of h None read = λ goes. or_lost h read
 read_short_of h (Some Usage) read = read
 read_short_of h (Some (ConfigRead path)) read = read
 read_short_of h (Some (ConfigRefused f)) read = read
+read_short_of h (Some (UnknownHost name)) read = read
 read_short_of h (Some (Numbers next wanted)) read = read
 read_short_of h (Some (SourceFailed name at)) read = λ goes. read
 read_short_of h (Some (ConfirmFailed name)) read = λ goes. or_lost h read
@@ -145,6 +148,7 @@ module _ {P : Type 0} (words : List ByteString) (environment : List Variable) (t
   missing_short (Some Usage) installed missing = inl missing
   missing_short (Some (ConfigRead path)) installed missing = inl missing
   missing_short (Some (ConfigRefused f)) installed missing = inl missing
+  missing_short (Some (UnknownHost name)) installed missing = inl missing
   missing_short (Some WantOfMemory) installed missing = missing
   missing_short (Some (Numbers next wanted)) installed missing = inr (all_asked installed missing)
   missing_short (Some (SourceFailed name at)) installed missing = inr (all_asked installed missing)
@@ -156,15 +160,16 @@ pub none_for : (stats : Bool) (h : Record) (fault : Option Fault) → is_summed 
 none_for false h fault none = refl
 none_for true h fault none = ap (λ (wanted : Bool). if wanted then Some (summary_of h) else None) (sym none)
 
-pub unready_unsummed : (environment : List Variable) (texts : Option (List Config)) (file : ByteString) (before now : ℕ) (fault : Fault) → IsUnready environment texts file before now fault → is_summed (Some fault) ≡ false
-unready_unsummed environment texts file before now Usage unready = absurd unready
-unready_unsummed environment texts file before now (ConfigRead path) unready = refl
-unready_unsummed environment texts file before now (ConfigRefused f) unready = refl
-unready_unsummed environment texts file before now (Numbers next wanted) unready = absurd unready
-unready_unsummed environment texts file before now (SourceFailed name at) unready = absurd unready
-unready_unsummed environment texts file before now (ConfirmFailed name) unready = absurd unready
-unready_unsummed environment texts file before now PrintFailed unready = absurd unready
-unready_unsummed environment texts file before now WantOfMemory unready = refl
+pub unready_unsummed : (environment : List Variable) (names : List ByteString) (texts : Option (List Config)) (file : ByteString) (before now : ℕ) (fault : Fault) → CannotBegin environment names texts file before now fault → is_summed (Some fault) ≡ false
+unready_unsummed environment names texts file before now Usage unready = absurd unready
+unready_unsummed environment names texts file before now (ConfigRead path) unready = refl
+unready_unsummed environment names texts file before now (ConfigRefused f) unready = refl
+unready_unsummed environment names texts file before now (UnknownHost name) unready = refl
+unready_unsummed environment names texts file before now (Numbers next wanted) unready = absurd unready
+unready_unsummed environment names texts file before now (SourceFailed name at) unready = absurd unready
+unready_unsummed environment names texts file before now (ConfirmFailed name) unready = absurd unready
+unready_unsummed environment names texts file before now PrintFailed unready = absurd unready
+unready_unsummed environment names texts file before now WantOfMemory unready = refl
 
 -- ---- behind a run
 
@@ -178,6 +183,7 @@ after_print Holds same old new before now (Some text) (Some WantOfMemory) fault 
 after_print Holds same old new before now (Some text) (Some Usage) fault carry followed holds = subst Holds (sym followed.0) holds
 after_print Holds same old new before now (Some text) (Some (ConfigRead path)) fault carry followed holds = subst Holds (sym followed.0) holds
 after_print Holds same old new before now (Some text) (Some (ConfigRefused f)) fault carry followed holds = subst Holds (sym followed.0) holds
+after_print Holds same old new before now (Some text) (Some (UnknownHost name)) fault carry followed holds = subst Holds (sym followed.0) holds
 after_print Holds same old new before now (Some text) (Some (Numbers next wanted)) fault carry followed holds = subst Holds (sym followed.0) holds
 after_print Holds same old new before now (Some text) (Some (SourceFailed name at)) fault carry followed holds = subst Holds (sym followed.0) holds
 after_print Holds same old new before now (Some text) (Some (ConfirmFailed name)) fault carry followed holds = subst Holds (sym followed.0) holds
@@ -192,9 +198,9 @@ asks_stats words h fault (Some other) text same is = is.0
 asks_stats words h fault None text same is = cc
 
 -- the answer of such a run
-pub answer_printed : (words : List ByteString) (environment : List Variable) (texts : Option (List Config)) (was is : ℕ) (h : Record) (fault : Option Fault) (summary : Option ByteString) (text : ByteString) → summary ≡ Some text →
-    IsSummary words h fault summary → IsAnswer words environment texts was is h None → IsAnswer words environment texts was is h (Some PrintFailed)
-answer_printed words environment texts was is h fault summary text same asked answer = inl (asks_stats words h fault summary text same asked, answer)
+pub answer_printed : (words : List ByteString) (environment : List Variable) (names : List ByteString) (texts : Option (List Config)) (was is : ℕ) (h : Record) (fault : Option Fault) (summary : Option ByteString) (text : ByteString) → summary ≡ Some text →
+    IsSummary words h fault summary → IsAnswer words environment names texts was is h None → IsAnswer words environment names texts was is h (Some PrintFailed)
+answer_printed words environment names texts was is h fault summary text same asked answer = inl (asks_stats words h fault summary text same asked, answer)
 
 -- ---- what is shown
 
@@ -235,6 +241,7 @@ module _ {X : Type 0} (printed : X → Option ByteString) (faults : X → ℕ) (
   unsummed a b (Some Usage) first installed none = first
   unsummed a b (Some (ConfigRead path)) first installed none = first
   unsummed a b (Some (ConfigRefused f)) first installed none = first
+  unsummed a b (Some (UnknownHost name)) first installed none = first
   unsummed a b (Some (Numbers next wanted)) first installed none = inl (quiet a b (Some (Numbers next wanted)) refl none installed.ready.file installed.ready.asked first)
   unsummed a b (Some (SourceFailed name at)) first installed none = inl (quiet a b (Some (SourceFailed name at)) refl none installed.ready.file installed.ready.asked first)
   unsummed a b (Some (ConfirmFailed name)) first installed none = inl (quiet a b (Some (ConfirmFailed name)) refl none installed.ready.file installed.ready.asked first)
@@ -267,6 +274,7 @@ module _ {X : Type 0} (printed : X → Option ByteString) (faults : X → ℕ) (
   shown_all a b c (Some text) (Some Usage) fault first installed sums followed = absurd (no_less sums.1.1)
   shown_all a b c (Some text) (Some (ConfigRead path)) fault first installed sums followed = absurd (no_less sums.1.1)
   shown_all a b c (Some text) (Some (ConfigRefused f)) fault first installed sums followed = absurd (no_less sums.1.1)
+  shown_all a b c (Some text) (Some (UnknownHost name)) fault first installed sums followed = absurd (no_less sums.1.1)
   shown_all a b c (Some text) (Some PrintFailed) fault first installed sums followed = absurd (unjudging words first.valid.file sums.0 first.valid.asked)
   shown_all a b c (Some text) (Some (Numbers next wanted)) fault first installed sums followed =
       subst (λ (f : Option Fault). All a c f) (sym followed.0) (inr (sums.0, either_behind a b c text first sums.1.0 followed.1))

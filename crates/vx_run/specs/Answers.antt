@@ -15,9 +15,10 @@ use Rattle.vx_record.specs.declared.abandon_cause.AbandonCause.TheVariants as ca
 use Rattle.vx_record.specs.Ceasing.{lost_at, cause_of}
 use Rattle.vx_hub.specs.Reporting.{IsNameOf}
 use Rattle.vx_cli.specs.declared.fault.Fault.{Fault}
-use Rattle.vx_cli.specs.declared.fault.Fault.TheVariants.{Usage, ConfigRead, ConfigRefused, Numbers, SourceFailed, ConfirmFailed, PrintFailed, WantOfMemory}
+use Rattle.vx_cli.specs.declared.fault.Fault.TheVariants.{Usage, ConfigRead, ConfigRefused, UnknownHost, Numbers, SourceFailed, ConfirmFailed, PrintFailed, WantOfMemory}
 use Rattle.vx_cli.specs.Commands.{IsCommand, IsNoCommand, IsRun, has_stats}
 use Rattle.vx_cli.specs.declared.command.Command.TheVariants.{Validate}
+use Rattle.vx_run.specs.Hosting.{IsLeastUnknown}
 
 -- a fact that is told but for want of memory
 abbrev pub ButForMemory : Type 0 → Option Fault → Type 0
@@ -66,6 +67,18 @@ pub record IsRefused (words : List ByteString) (environment : List Variable) (te
   pub asked : NamesFile words file
   pub refused : IsFaultAt environment texts file fault
 
+-- a file stands for a plan of which a component runs a transform that the program doesn't hand in; this is the least of such names
+pub record IsUnknownAt (environment : List Variable) (names : List ByteString) (texts : Option (List Config)) (file name : ByteString) : Type 0 where
+  pub plan : Plan
+  pub stands : IsPlanAt environment texts file plan
+  pub unknown : IsLeastUnknown names plan.components name
+
+-- the words ask for a run of such a file
+pub record IsUnhosted (words : List ByteString) (environment : List Variable) (names : List ByteString) (texts : Option (List Config)) (name : ByteString) : Type 0 where
+  pub file : ByteString
+  pub asked : IsRun words file
+  pub unknown : IsUnknownAt environment names texts file name
+
 -- what a failed read of a configuration says
 abbrev pub IsUnread : ByteString → ℕ → ℕ → Fault → Type 0
 IsUnread file before now (ConfigRead path) = (path ≡ file) × Rose before now
@@ -84,6 +97,11 @@ IsUnready environment texts file before now (ConfigRead path) = (path ≡ file) 
 IsUnready environment texts file before now (ConfigRefused fault) = IsFaultAt environment texts file fault
 IsUnready environment texts file before now WantOfMemory = Unit {0}
 IsUnready environment texts file before now other = ⊥
+
+-- what it says where no run of a file begins, if the program hands in transforms of these names
+abbrev pub CannotBegin : List Variable → List ByteString → Option (List Config) → ByteString → ℕ → ℕ → Fault → Type 0
+CannotBegin environment names texts file before now (UnknownHost name) = IsUnknownAt environment names texts file name
+CannotBegin environment names texts file before now fault = IsUnready environment texts file before now fault
 
 -- the least instance that was lost, with its component's name and after how many bytes
 pub record IsLost (h : Record) (name : ByteString) (at i : ℕ) : Type 0 where
@@ -118,11 +136,13 @@ IsJudged h (Some (Numbers next wanted)) = cause_of h ≡ Some (cause.Numbers nex
 IsJudged h (Some WantOfMemory) = Unit {0}
 IsJudged h (Some other) = ⊥
 
--- what each answer says: of the words, of the world's texts and its count of faults, and of the record
-abbrev pub IsAnswer : List ByteString → List Variable → Option (List Config) → ℕ → ℕ → Record → Option Fault → Type 0
-IsAnswer words environment texts before now h (Some Usage) = IsNoCommand words
-IsAnswer words environment texts before now h (Some (ConfigRead path)) = NamesFile words path × Rose before now
-IsAnswer words environment texts before now h (Some (ConfigRefused fault)) = IsRefused words environment texts fault
-IsAnswer words environment texts before now h (Some PrintFailed) = (AsksStats words × IsJudged h None) ⊎ ((file : ByteString) × IsCommand words (Validate file))
-IsAnswer words environment texts before now h (Some WantOfMemory) = Unit {0}
-IsAnswer words environment texts before now h fault = IsJudged h fault
+-- what each answer says: of the words, of the names of the transforms that the program hands in, of the world's texts and its count of
+-- faults, and of the record
+abbrev pub IsAnswer : List ByteString → List Variable → List ByteString → Option (List Config) → ℕ → ℕ → Record → Option Fault → Type 0
+IsAnswer words environment names texts before now h (Some Usage) = IsNoCommand words
+IsAnswer words environment names texts before now h (Some (ConfigRead path)) = NamesFile words path × Rose before now
+IsAnswer words environment names texts before now h (Some (ConfigRefused fault)) = IsRefused words environment texts fault
+IsAnswer words environment names texts before now h (Some (UnknownHost name)) = IsUnhosted words environment names texts name
+IsAnswer words environment names texts before now h (Some PrintFailed) = (AsksStats words × IsJudged h None) ⊎ ((file : ByteString) × IsCommand words (Validate file))
+IsAnswer words environment names texts before now h (Some WantOfMemory) = Unit {0}
+IsAnswer words environment names texts before now h fault = IsJudged h fault

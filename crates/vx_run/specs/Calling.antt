@@ -13,7 +13,7 @@ use Rattle.vx_plan.specs.Ports.{port_of}
 use Rattle.vx_record.specs.Records.{Record}
 use Rattle.vx_record.specs.Installs.{in_force}
 use Rattle.vx_cli.specs.declared.fault.Fault.{Fault}
-use Rattle.vx_cli.specs.declared.fault.Fault.TheVariants.{Usage, ConfigRead, ConfigRefused, PrintFailed, WantOfMemory}
+use Rattle.vx_cli.specs.declared.fault.Fault.TheVariants.{Usage, ConfigRead, ConfigRefused, UnknownHost, PrintFailed, WantOfMemory}
 use Rattle.vx_cli.specs.Commands.{IsCommand, IsRun, has_once}
 use Rattle.vx_cli.specs.declared.command.Command.TheVariants.{Validate}
 use Rattle.vx_run.specs.Answers.{NamesFile, IsPlanAt}
@@ -89,6 +89,7 @@ HasCalled words environment texts old new h None = HasCalledAll words old new h 
 HasCalled words environment texts old new h (Some Usage) = new ≡ old
 HasCalled words environment texts old new h (Some (ConfigRead path)) = HasReadNamed words old new
 HasCalled words environment texts old new h (Some (ConfigRefused fault)) = HasReadNamed words old new
+HasCalled words environment texts old new h (Some (UnknownHost name)) = HasReadNamed words old new
 HasCalled words environment texts old new h (Some PrintFailed) = HasCalledAll words old new h ⊎ HasRead words old new h
 HasCalled words environment texts old new h (Some WantOfMemory) = HasAskedFirst words environment texts old new h
 HasCalled words environment texts old new h fault = HasCalledAll words old new h

@@ -22,9 +22,10 @@ use Rattle.vx_record.specs.SinkBatches.{is_failed}
 use Rattle.vx_hub.specs.Remains.{AreNumbered, AreObservedButGiven}
 use Rattle.vx_hub.specs.declared.parts.Numbered.{Numbered}
 use Rattle.vx_cli.specs.declared.fault.Fault.{Fault}
-use Rattle.vx_cli.specs.declared.fault.Fault.TheVariants.{ConfigRefused, PrintFailed}
+use Rattle.vx_cli.specs.declared.fault.Fault.TheVariants.{ConfigRefused, UnknownHost, PrintFailed}
 use Rattle.vx_cli.specs.Commands.{IsRun}
 use Rattle.vx_run.specs.Answers.{AsksStats, IsAnswer, WentOn}
+use Rattle.vx_run.specs.Hosting.{IsLeastUnknown}
 use Rattle.vx_run.specs.Running.{HasInstalled, NoneMissing}
 
 -- no port tells of a failed call, nor of a refused one
@@ -55,6 +56,11 @@ pub record IsFaultless {P : Type 0} (observe : P → Observation) (words : List 
 abbrev pub IsRefusedAnew : List Component → Option Fault → Type 0
 IsRefusedAnew components (Some (ConfigRefused fault)) = NoneRefusable components → ⊥
 IsRefusedAnew components other = ⊥
+
+-- of these components one runs a transform that the program doesn't hand in
+abbrev pub IsHostless : List ByteString → List Component → Option Fault → Type 0
+IsHostless names components (Some (UnknownHost name)) = IsLeastUnknown names components name
+IsHostless names components other = ⊥
 
 -- the answer says that a print failed only where the printer's count of failed prints rose
 abbrev pub PrintBlames : ℕ → ℕ → Option Fault → Type 0
@@ -89,10 +95,10 @@ NoneDueAtEnd =
     is_confirm_due earlier i ≡ false
 
 -- what `vector` ensures of a run that ended well, in which nothing failed and nothing was refused
-pub record HasEndedWell {P : Type 0} (observe : P → Observation) (words : List ByteString) (environment : List Variable) (configs : List Config) (before now was is : ℕ) (h : Record) (ports : List (Numbered P)) : Type 0 where
+pub record HasEndedWell {P : Type 0} (observe : P → Observation) (words : List ByteString) (environment : List Variable) (names : List ByteString) (configs : List Config) (before now was is : ℕ) (h : Record) (ports : List (Numbered P)) : Type 0 where
   pub faultless : IsFaultless observe words environment configs before now was is h ports
   pub legal : IsLegal h
-  pub answer : IsAnswer words environment (Some configs) before now h None
+  pub answer : IsAnswer words environment names (Some configs) before now h None
   pub installed : HasInstalled words environment (Some configs) h None
   pub none_missing : NoneMissing words environment (Some configs) h ports None
   pub observed : AreObservedButGiven observe h ports

@@ -1,6 +1,7 @@
 pub mod Answers
 pub mod Calling
 pub mod Completeness
+pub mod Hosting
 pub mod Judging
 pub mod Merging
 pub mod Moments

@@ -19,7 +19,7 @@ use Rattle.vx_hub.specs.Standing.{GoesOn}
 use Rattle.vx_run.specs.Answers.{ButForMemory, IsReady, IsValid, WentOn}
 use Rattle.vx_cli.specs.Commands.{has_once}
 use Rattle.vx_cli.specs.declared.fault.Fault.{Fault}
-use Rattle.vx_cli.specs.declared.fault.Fault.TheVariants.{Usage, ConfigRead, ConfigRefused, SourceFailed, ConfirmFailed, PrintFailed, WantOfMemory}
+use Rattle.vx_cli.specs.declared.fault.Fault.TheVariants.{Usage, ConfigRead, ConfigRefused, UnknownHost, SourceFailed, ConfirmFailed, PrintFailed, WantOfMemory}
 
 -- the ports tell what the record has, but that where memory was wanting they may have been given more
 pub record IsTrueTo {P : Type 0} (observe : P → Observation) (h : Record) (ports : List (Numbered P)) (fault : Option Fault) : Type 0 where
@@ -59,6 +59,7 @@ HasInstalled words environment texts h None = IsInstalled words environment text
 HasInstalled words environment texts h (Some Usage) = Unit {0}
 HasInstalled words environment texts h (Some (ConfigRead path)) = Unit {0}
 HasInstalled words environment texts h (Some (ConfigRefused fault)) = Unit {0}
+HasInstalled words environment texts h (Some (UnknownHost name)) = Unit {0}
 HasInstalled words environment texts h (Some PrintFailed) = IsInstalled words environment texts h ⊎ IsOnlyJudged words environment texts h
 HasInstalled words environment texts h (Some WantOfMemory) = (h ≡ []) ⊎ IsInstalled words environment texts h
 HasInstalled words environment texts h other = IsInstalled words environment texts h
@@ -110,6 +111,7 @@ NoneMissing words environment texts h ports (Some PrintFailed) = IsSomeAnd (in_f
 NoneMissing words environment texts h ports (Some Usage) = IsUnbegun h ports
 NoneMissing words environment texts h ports (Some (ConfigRead path)) = IsUnbegun h ports
 NoneMissing words environment texts h ports (Some (ConfigRefused fault)) = IsUnbegun h ports
+NoneMissing words environment texts h ports (Some (UnknownHost name)) = IsUnbegun h ports
 NoneMissing words environment texts h ports (Some WantOfMemory) = IsUnbegun h ports ⊎ HasAllAsked words environment texts ports
 NoneMissing words environment texts h ports other = IsSomeAnd (in_force h) (HasAll ports)
 

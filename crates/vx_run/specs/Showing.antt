@@ -17,7 +17,7 @@ use Rattle.vx_record.specs.Tallies.{tally}
 use Rattle.vx_cli.specs.Commands.{IsRun}
 use Rattle.vx_cli.specs.Summaries.{summary_line}
 use Rattle.vx_cli.specs.declared.fault.Fault.{Fault}
-use Rattle.vx_cli.specs.declared.fault.Fault.TheVariants.{Usage, ConfigRead, ConfigRefused, PrintFailed, WantOfMemory}
+use Rattle.vx_cli.specs.declared.fault.Fault.TheVariants.{Usage, ConfigRead, ConfigRefused, UnknownHost, PrintFailed, WantOfMemory}
 use Rattle.vx_run.specs.Answers.{AsksRun, AsksStats, IsPlanAt, IsValid, IsUnready}
 
 -- whether two classes are the same
@@ -75,6 +75,7 @@ abbrev pub is_summed : Option Fault → Bool
 is_summed (Some Usage) = false
 is_summed (Some (ConfigRead path)) = false
 is_summed (Some (ConfigRefused fault)) = false
+is_summed (Some (UnknownHost name)) = false
 is_summed (Some WantOfMemory) = false
 is_summed fault = true
 
@@ -87,6 +88,7 @@ abbrev pub is_unready : Option Fault → Bool
 is_unready (Some Usage) = true
 is_unready (Some (ConfigRead path)) = true
 is_unready (Some (ConfigRefused fault)) = true
+is_unready (Some (UnknownHost name)) = true
 is_unready fault = false
 
 -- so by the words: there is nothing where nothing is to be printed, and else what the instances of a run that began counted
@@ -151,4 +153,5 @@ IsShown words environment texts h same old new before now (Some WantOfMemory) = 
 IsShown words environment texts h same old new before now (Some Usage) = same
 IsShown words environment texts h same old new before now (Some (ConfigRead path)) = same
 IsShown words environment texts h same old new before now (Some (ConfigRefused fault)) = same
+IsShown words environment texts h same old new before now (Some (UnknownHost name)) = same
 IsShown words environment texts h same old new before now other = IsRunShown words h same old new before now

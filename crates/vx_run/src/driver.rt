@@ -11,6 +11,7 @@ use std::alloc::Global;
 use std::sync::Wait;
 use vx_ends::{Clock, Port};
 use vx_hub::{Fatal, Hub};
+use vx_keeping::Hosts;
 use vx_record::AbandonCause;
 use vx_tasks::Work;
 
@@ -23,8 +24,14 @@ const TASKS: u32 = 64;
 /// How often parcels are moved on in one turn at the most.
 const MOVES: u32 = 64;
 
-/// Turns a hub until each of its instances ended.
-pub(crate) fn drive<R: Wait, P: Port, C: Clock>(rt: &R, alloc: Global, hub: &mut Hub<P>, clock: &C)
+/// Turns a hub until each of its instances ended, with the transforms that the program hands in.
+pub(crate) fn drive<R: Wait, P: Port, C: Clock, H: Hosts>(
+    rt: &R,
+    alloc: Global,
+    hub: &mut Hub<P>,
+    clock: &C,
+    hosts: &mut H,
+)
     requires hub { IsHub P.observed hub.old }
     requires moment { C.gave clock.now hub.old.engine.run.latest }
     ensures hub { IsHub P.observed hub.new }
@@ -35,7 +42,7 @@ pub(crate) fn drive<R: Wait, P: Port, C: Clock>(rt: &R, alloc: Global, hub: &mut
         if hub.over() {
             return;
         }
-        turn(alloc, hub, clock);
+        turn(alloc, hub, clock, hosts);
     }
 }
 
@@ -47,7 +54,7 @@ const REST: u64 = 20;
 /// nothing to do, it rests.
 ///
 /// A source is so read only where nothing waits that can move, since a read may wait for long.
-fn turn<P: Port, C: Clock>(alloc: Global, hub: &mut Hub<P>, clock: &C)
+fn turn<P: Port, C: Clock, H: Hosts>(alloc: Global, hub: &mut Hub<P>, clock: &C, hosts: &mut H)
     requires hub { IsHub P.observed hub.old }
     requires moment { C.gave clock.now hub.old.engine.run.latest }
     ensures hub { IsHub P.observed hub.new }
@@ -58,7 +65,7 @@ fn turn<P: Port, C: Clock>(alloc: Global, hub: &mut Hub<P>, clock: &C)
     if move_parcels(hub) {
         return;
     }
-    let merged = merge(hub, clock);
+    let merged = merge(hub, clock, hosts);
     if merged && hub.pending().is_some() {
         return;
     }
@@ -69,16 +76,16 @@ fn turn<P: Port, C: Clock>(alloc: Global, hub: &mut Hub<P>, clock: &C)
     if retire(hub) || merged {
         return;
     }
-    rest(hub, clock, now);
+    rest(hub, clock, hosts, now);
 }
 
 /// Waits until the soonest moment for which an instance waits or from which on one is to act by itself, and not for long.
-fn rest<P: Port, C: Clock>(hub: &Hub<P>, clock: &C, now: u64)
+fn rest<P: Port, C: Clock, H: Hosts>(hub: &Hub<P>, clock: &C, hosts: &H, now: u64)
     requires { IsHub P.observed hub.now }
 {
     let longest = now.saturating_add(REST);
     let due = hub.due().unwrap_or(longest);
-    let check = hub.next_check().unwrap_or(longest);
+    let check = hub.next_check(hosts).unwrap_or(longest);
     clock.rest(due.min(check).min(longest));
 }
 
@@ -146,16 +153,16 @@ fn lease<P: Port, C: Clock>(alloc: Global, hub: &mut Hub<P>, clock: &C, now: u64
     }
 }
 
-/// Has an instance that merges events answer what it took, act by itself or put out what is left, if one has to. Tells whether one
+/// Has an instance that merges answer what it took, act by itself or put out what is left, if one has to. Tells whether one
 /// had.
-fn merge<P: Port, C: Clock>(hub: &mut Hub<P>, clock: &C) -> bool
+fn merge<P: Port, C: Clock, H: Hosts>(hub: &mut Hub<P>, clock: &C, hosts: &mut H) -> bool
     requires hub { IsHub P.observed hub.old }
     requires moment { C.gave clock.now hub.old.engine.run.latest }
     ensures hub { IsHub P.observed hub.new }
     ensures on { OnlyAdds (IsTimely (C.gave clock.now)) hub.old.engine.log hub.new.engine.log }
     ensures moment { C.gave clock.now hub.new.engine.run.latest }
 {
-    match hub.merge(WORKER, clock.now()) {
+    match hub.merge(hosts, WORKER, clock.now()) {
         Ok(merged) => merged,
         Err(fatal) => {
             give_up(hub, fatal);

@@ -4,6 +4,7 @@
 mod completeness;
 mod driver;
 mod ended;
+mod hosting;
 mod judging;
 mod merging;
 mod preparing;

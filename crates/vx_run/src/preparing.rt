@@ -10,26 +10,31 @@ ghost use Rattle.vx_hub.specs.Making.{IsUntouched, AreUntouched, ArePickers, Are
 ghost use Rattle.vx_reading.specs.Answers.{HasConditions};
 ghost use Rattle.vx_reading.specs.Made.{is_made};
 ghost use Rattle.vx_reading.specs.Reading.{IsReading};
-ghost use Rattle.vx_run.specs.Answers.{IsPlanAt, IsUnready, IsUnread, IsMisread};
+ghost use Rattle.vx_run.specs.Answers.{CannotBegin, IsPlanAt, IsUnready, IsUnread, IsMisread};
 ghost use Rattle.vx_run.specs.Calling.{HasBegun, HasCalledFor, call_of, port_calls, run_calls};
+ghost use Rattle.vx_run.specs.Hosting.{AllKnown};
 
+use crate::hosting::unknown_host;
 use crate::transforms::{Transforms, make_transforms};
 use std::alloc::Global;
 use vx_cli::Fault;
 use vx_ends::{Port, PortSpec, Trouble, World};
 use vx_hub::{Named, NamedList, Parts, end_keepers};
+use vx_keeping::NamedHosts;
 use vx_plan::{Component, Plan};
 use vx_reading::{PlanFault, ReadPlan, read_plan};
 use vx_value::{Bytes, Text, VariableList, WantOfMemory};
 
 /// What a run of the configuration at a path is made of: its plan, a port for each component that has a device, and what each transform
-/// picks by or keeps. With `once` the ports of files end with what these have. Where there is none, a fault tells why.
-pub fn prepare<W: World>(
+/// picks by or keeps. With `once` the ports of files end with what these have. Where there is none, a fault tells why, and so it does
+/// where a component is to run a transform that the program doesn't hand in.
+pub fn prepare<W: World, H: NamedHosts>(
     alloc: Global,
     file: &Text,
     once: bool,
     environment: &VariableList,
     world: &mut W,
+    hosts: &H,
 ) -> Result<Parts<Option<W::Port>>, Fault>
     ensures stands { IfOk result
         (λ parts. IsPlanAt environment.now (W.texts world.old) file.now parts.plan) }
@@ -44,9 +49,10 @@ pub fn prepare<W: World>(
     ensures untouched { IfOk result
         (λ parts. AreUntouched (observed_if W.Port.observed)
         (port_of parts.once parts.plan.global.data_dir) parts.plan.components parts.ports) }
+    ensures known { IfOk result (λ parts. AllKnown (H.names hosts.now) parts.plan.components) }
     ensures unready { IfErr result
-        (IsUnready environment.now (W.texts world.old) file.now (W.faults world.old)
-        (W.faults world.new)) }
+        (CannotBegin environment.now (H.names hosts.now) (W.texts world.old) file.now
+        (W.faults world.old) (W.faults world.new)) }
     ensures called { IfOk result
         (λ parts. Grows (W.calls world.old) (W.calls world.new)
         (run_calls once file.now parts.plan)) }
@@ -56,6 +62,9 @@ pub fn prepare<W: World>(
     ensures texts { W.texts world.new ≡ W.texts world.old }
 {
     let ReadPlan { plan, conditions } = plan_at(alloc, file, environment, world)?;
+    if let Some(fault) = unknown_host(alloc, &plan, hosts) {
+        return Err(fault);
+    }
     let Ok(Transforms { pickers, keepers }) = make_transforms(alloc, &plan, conditions) else {
         return Err(Fault::WantOfMemory);
     };

@@ -11,11 +11,13 @@ ghost use Rattle.vx_value.specs.Texts.{ByteString};
 ghost use Rattle.vx_cli.specs.Commands.{IsRun, has_once};
 ghost use Rattle.vx_run.specs.Answers.{IsAnswer, IsJudged};
 ghost use Rattle.vx_run.specs.Calling.{HasCalled};
+ghost use Rattle.vx_run.specs.Hosting.{AreHosted};
 ghost use Rattle.vx_run.specs.Moments.{AreTimely};
 ghost use Rattle.vx_run.specs.Showing.{IsShownFirst, IsSummary, is_summed, summary_for, summary_of};
 ghost use Rattle.vx_run.specs.Running.{IsTrueTo, AllReturned, HasInstalled, IsInForce, IsReadOut, IsCounted, HasEach, NoneMissing};
 
 use crate::driver::drive;
+use crate::hosting::assign_hosts;
 use crate::judging::judge;
 use crate::preparing::prepare;
 use crate::validating::validate;
@@ -25,6 +27,7 @@ use vx_cli::{CliFault, Command, Fault, read_words, summary_line};
 use vx_ends::{Clock, Port, Printer, World};
 use vx_history::History;
 use vx_hub::{Hub, NewRefused, NumberedList, Parts, Remains, engine_laws};
+use vx_keeping::{Hosts, NamedHosts};
 use vx_record::{Entry, TallyList};
 use vx_value::{Bytes, Text, TextList, VariableList, WantOfMemory};
 
@@ -40,17 +43,19 @@ pub(crate) struct Outcome<P> {
 }
 
 /// Does what the words ask for.
-pub(crate) fn perform<R: Wait, W: World, C: Clock, P: Printer>(
+pub(crate) fn perform<R: Wait, W: World, C: Clock, H: NamedHosts, P: Printer>(
     rt: &R,
     alloc: Global,
     words: &TextList,
     environment: &VariableList,
     world: &mut W,
     clock: &C,
+    hosts: &mut H,
     out: &mut P,
 ) -> Outcome<Option<W::Port>>
-    ensures answer { IsAnswer words.now environment.now (W.texts world.old) (W.faults world.old)
-        (W.faults world.new) result.history result.fault }
+    ensures answer { IsAnswer words.now environment.now (H.names hosts.old) (W.texts world.old)
+        (W.faults world.old) (W.faults world.new) result.history result.fault }
+    ensures hosted { AreHosted (H.names hosts.old) result.history }
     ensures summary { IsSummary words.now result.history result.fault result.summary }
     ensures shown { IsShownFirst words.now environment.now (W.texts world.old) (out.new ≡ out.old)
         (P.printed out.old) (P.printed out.new) (P.faults out.old) (P.faults out.new) result.fault }
@@ -77,7 +82,17 @@ pub(crate) fn perform<R: Wait, W: World, C: Clock, P: Printer>(
                 once,
                 stats,
             },
-        ) => run(rt, alloc, &config, once, stats, environment, world, clock),
+        ) => run(
+            rt,
+            alloc,
+            &config,
+            once,
+            stats,
+            environment,
+            world,
+            clock,
+            hosts,
+        ),
         Ok(Command::Validate { path }) => {
             unbegun(alloc, validate(alloc, &path, environment, world, out))
         }
@@ -88,7 +103,7 @@ pub(crate) fn perform<R: Wait, W: World, C: Clock, P: Printer>(
 
 /// Runs the configuration at a path, to the end of the files that are there where `once` holds, and sums up what its instances counted
 /// where `stats` holds.
-fn run<R: Wait, W: World, C: Clock>(
+fn run<R: Wait, W: World, C: Clock, H: NamedHosts>(
     rt: &R,
     alloc: Global,
     file: &Text,
@@ -97,10 +112,12 @@ fn run<R: Wait, W: World, C: Clock>(
     environment: &VariableList,
     world: &mut W,
     clock: &C,
+    hosts: &mut H,
 ) -> Outcome<Option<W::Port>>
     ensures answer { (words : List ByteString) → IsRun words file.now →
-        IsAnswer words environment.now (W.texts world.old) (W.faults world.old)
-        (W.faults world.new) result.history result.fault }
+        IsAnswer words environment.now (H.names hosts.old) (W.texts world.old)
+        (W.faults world.old) (W.faults world.new) result.history result.fault }
+    ensures hosted { AreHosted (H.names hosts.old) result.history }
     ensures observed { IsTrueTo (observed_if W.Port.observed) result.history result.ports result.fault }
     ensures returned { AllReturned result.history result.fault }
     ensures installed { (words : List ByteString) → IsRun words file.now → has_once words ≡ once →
@@ -121,8 +138,11 @@ fn run<R: Wait, W: World, C: Clock>(
         (W.calls world.new) result.history result.fault }
     ensures texts { W.texts world.new ≡ W.texts world.old }
 {
-    match prepare(alloc, file, once, environment, world) {
-        Ok(parts) => begin(rt, alloc, parts, stats, clock),
+    match prepare(alloc, file, once, environment, world, hosts) {
+        Ok(parts) => {
+            assign_hosts(&parts.plan, hosts);
+            begin(rt, alloc, parts, stats, clock, hosts)
+        }
         Err(fault) => unbegun(alloc, Some(fault)),
     }
 }
@@ -149,12 +169,13 @@ fn unbegun<P>(alloc: Global, fault: Option<Fault>) -> Outcome<P>
 }
 
 /// Runs a plan between its ports.
-fn begin<R: Wait, P: Port, C: Clock>(
+fn begin<R: Wait, P: Port, C: Clock, H: Hosts>(
     rt: &R,
     alloc: Global,
     parts: Parts<P>,
     stats: bool,
     clock: &C,
+    hosts: &mut H,
 ) -> Outcome<P>
     requires few { length parts.plan.components < 2 ^ 32 }
     requires ports { length parts.ports ≡ length parts.plan.components }
@@ -179,7 +200,7 @@ fn begin<R: Wait, P: Port, C: Clock>(
     ensures moments { AreTimely (C.gave clock.now) result.history }
 {
     match Hub::new(alloc, parts, clock.now()) {
-        Ok(hub) => finish(rt, alloc, hub, stats, clock),
+        Ok(hub) => finish(rt, alloc, hub, stats, clock, hosts),
         Err(NewRefused { parts }) => {
             let _ports = parts.into_ports();
             unbegun(alloc, Some(Fault::WantOfMemory))
@@ -188,12 +209,13 @@ fn begin<R: Wait, P: Port, C: Clock>(
 }
 
 /// Runs a hub to its end.
-fn finish<R: Wait, P: Port, C: Clock>(
+fn finish<R: Wait, P: Port, C: Clock, H: Hosts>(
     rt: &R,
     alloc: Global,
     hub: Hub<P>,
     stats: bool,
     clock: &C,
+    hosts: &mut H,
 ) -> Outcome<P>
     requires hub { IsHub P.observed hub }
     requires moment { C.gave clock.now hub.engine.run.latest }
@@ -213,7 +235,7 @@ fn finish<R: Wait, P: Port, C: Clock>(
     ensures count { length result.ports ≡ length (started result.history) }
 {
     let mut hub = hub;
-    drive(rt, alloc, &mut hub, clock);
+    drive(rt, alloc, &mut hub, clock, hosts);
     engine_laws();
     let fault = judge(alloc, &hub);
     let Counted {
@@ -283,7 +305,11 @@ fn is_summed(fault: &Option<Fault>) -> bool
     match fault {
         None => true,
         Some(
-            Fault::Usage | Fault::ConfigRead { .. } | Fault::ConfigRefused(_) | Fault::WantOfMemory,
+            Fault::Usage
+            | Fault::ConfigRead { .. }
+            | Fault::ConfigRefused(_)
+            | Fault::UnknownHost(_)
+            | Fault::WantOfMemory,
         ) => false,
         Some(
             Fault::Numbers { .. }

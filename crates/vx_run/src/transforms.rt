@@ -131,8 +131,8 @@ fn keeper_of(
     ensures bare { IfOk result (λ keeper. IfSome keeper (λ k. copies_kept k ≡ [])) }
 {
     match reduce_settings_of(alloc, component, conditions)? {
-        Some(settings) => Ok(Some(Keeper::new(alloc, settings, HAND)?)),
-        None => unreachable!(),
+        Some(settings) => Ok(Some(Keeper::reducing(alloc, settings, HAND)?)),
+        None => Ok(Some(Keeper::hosting(alloc, HAND)?)),
     }
 }
 

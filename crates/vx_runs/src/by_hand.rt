@@ -17,6 +17,7 @@ use std::process::Abort;
 use std::test::Fail;
 use vx_ends::{Clock, ConfigList, MemoryClock, MemoryPort, MemoryWorld, Port, ScriptedList, World};
 use vx_hub::{Hub, NewRefused, Numbered, NumberedList, Remains};
+use vx_keeping::HostList;
 use vx_plan::Class;
 use vx_record::{AbandonCause, Tally};
 use vx_run::prepare;
@@ -329,7 +330,14 @@ fn hub_of<W: World>(alloc: Global, world: &mut W) -> Result<Hub<Option<W::Port>>
     ensures { IfOk result (IsHub (observed_if W.Port.observed)) }
 {
     let file = Text::copy_of(alloc, "first.toml")?;
-    let Ok(parts) = prepare(alloc, &file, false, &VariableList::new(alloc), world) else {
+    let Ok(parts) = prepare(
+        alloc,
+        &file,
+        false,
+        &VariableList::new(alloc),
+        world,
+        &HostList::new(alloc),
+    ) else {
         return Err(WantOfMemory);
     };
     match Hub::new(alloc, parts, 0) {
@@ -469,11 +477,12 @@ const TWO_TAKEN: Tally = Tally {
 };
 
 /// Has the instance that merges do what there is to do.
-fn merge_once<R: Abort, P: Port>(rt: &R, hub: &mut Hub<P>)
+fn merge_once<R: Abort, P: Port>(rt: &R, alloc: Global, hub: &mut Hub<P>)
     requires { IsHub P.observed hub.old }
     ensures { IsHub P.observed hub.new }
 {
-    let did = hub.merge(0, 0).expect(rt, "a merge");
+    let mut hosts = HostList::new(alloc);
+    let did = hub.merge(&mut hosts, 0, 0).expect(rt, "a merge");
     assert!(rt; did);
 }
 
@@ -488,8 +497,8 @@ fn group_given_up<R: Abort, P: Port, C: Clock>(
 {
     let mut hub = hub;
     one_out(rt, alloc, &mut hub, clock, 0);
-    merge_once(rt, &mut hub);
-    assert_eq!(rt; hub.next_check(), Some(1_000));
+    merge_once(rt, alloc, &mut hub);
+    assert_eq!(rt; hub.next_check(&HostList::new(alloc)), Some(1_000));
     assert!(rt; hub.unspent());
     assert!(rt; hub.abandoned().is_none());
     give_up(&mut hub);

@@ -18,6 +18,8 @@ mod fixtures;
 #[cfg(test)]
 mod generated;
 #[cfg(test)]
+mod hosts;
+#[cfg(test)]
 mod json_runs;
 #[cfg(test)]
 mod memory_ends;

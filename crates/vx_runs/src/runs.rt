@@ -8,6 +8,7 @@ use std::test::Fail;
 use vx_ends::{
     Act, Clock, ConfigList, MemoryClock, MemoryPrinter, MemoryWorld, ScriptedList, StepList,
 };
+use vx_keeping::{HostList, NamedHosts};
 use vx_run::{Ended, vector};
 use vx_value::WantOfMemory;
 
@@ -119,6 +120,17 @@ pub(crate) fn played<R: Wait + Abort>(
     run: &Run,
     steps: StepList,
 ) -> Result<Ended<MemoryWorld>, WantOfMemory> {
+    played_by(rt, alloc, run, steps, HostList::new(alloc))
+}
+
+/// The same, where the program hands in some transforms.
+pub(crate) fn played_by<R: Wait + Abort, H: NamedHosts + Drop>(
+    rt: &R,
+    alloc: Global,
+    run: &Run,
+    steps: StepList,
+    hosts: H,
+) -> Result<Ended<MemoryWorld>, WantOfMemory> {
     let words = texts(alloc, run.words)?;
     let environment = environment(alloc, run.variables)?;
     let world = world(alloc, run, steps)?;
@@ -132,6 +144,7 @@ pub(crate) fn played<R: Wait + Abort>(
         &environment,
         world,
         &clock,
+        hosts,
         &mut out,
         &mut err,
     );
@@ -155,7 +168,7 @@ pub(crate) fn given(ended: &Ended<MemoryWorld>, instance: usize) -> &[u8] {
 }
 
 /// Checks how many ports there are, and what each was given. As many instances are counted.
-fn were_given(rt: &impl Abort, ended: &Ended<MemoryWorld>, wanted: &[&str]) {
+pub(crate) fn were_given(rt: &impl Abort, ended: &Ended<MemoryWorld>, wanted: &[&str]) {
     assert_eq!(rt; ended.ports.len(), wanted.len());
     for i in 0..wanted.len() {
         assert!(rt; given(ended, i) == wanted[i].as_bytes());

@@ -1,4 +1,5 @@
--- Transforms that merge events: they join parcels, and keep some from one answer to the next. A host isn't among them.
+-- Transforms that answer all that they took at once: those that join parcels, and keep some from one answer to the next, and those that a
+-- program hands in.
 use Rattle.std.specs.Prelude.{ℕ, Bool, true, false, ◌&&◌}
 use Rattle.vx_plan.specs.declared.component.Component.{Component}
 use Rattle.vx_plan.specs.declared.settings.Settings.{Settings}
@@ -17,7 +18,7 @@ is_joining (Route routes reroute) = false
 is_joining (Sample rate exclude) = false
 is_joining (Dedupe fields most) = false
 is_joining (Reduce group_by starts_when ends_when expire flush strategies) = true
-is_joining Host = false
+is_joining Host = true
 is_joining (Console target codec sink) = false
 is_joining (FileOut path compression codec sink) = false
 is_joining (Blackhole seconds sink) = false

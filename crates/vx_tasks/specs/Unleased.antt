@@ -19,7 +19,7 @@ use Rattle.vx_tasks.specs.Joining.{joins_at}
 
 -- what an instance does has come as far as the record has it: a source with a port is abreast of it, one without makes the lines that
 -- come next, a sink writes by the codec of its component, a black hole is one, a transform that judges picks by the settings of its component, and
--- one that merges is a reduce
+-- one that merges is a reduce or a host
 abbrev pub HasCome : Record → ℕ → Role → Type 0
 HasCome h i (Source core) = IsAbreast h i core × (device_at h i ≡ true)
 HasCome h i (Generator generator) = IsGenerating h i generator × (device_at h i ≡ false)

@@ -25,8 +25,8 @@ loop-k-preserved g c =
           (check_more engine before found c.loop-k.invariant.checks (check_of engine _ among.0 found c.checks_at.ensures.due c.checks_at.ensures.joins));
       only = subst (λ (o : Option ℕ). (j : ℕ) → j < k + 1 → IfSome (slice_get mergers j) (ComesBy engine o)) (sym is)
           (found_more (ComesBy engine _) mergers k c.loop-k-test.true
-          (λ settled usable fit now ready. by_second before found now (c.checks_at.ensures.only settled usable among.1 fit now ready))
-          (λ j l. IfSome_then (slice_get mergers j) (c.loop-k.invariant.only j l) (λ i by settled usable fit now ready. by_first before found now (by settled usable fit now ready))));
+          (λ settled usable fit alone now ready. by_second before found now (c.checks_at.ensures.only settled usable among.1 fit alone now ready))
+          (λ j l. IfSome_then (slice_get mergers j) (c.loop-k.invariant.only j l) (λ i by settled usable fit alone now ready. by_first before found now (by settled usable fit alone now ready))));
     }
 
 pub returns-clause-only : goal.returns-clause-only

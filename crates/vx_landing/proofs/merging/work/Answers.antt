@@ -22,6 +22,7 @@ returns-in-Ok-clause-worked g c =
 pub returns-in-Ok-clause-well : goal.returns-in-Ok-clause-well
 returns-in-Ok-clause-well g c = record {
   answered = c.in-Ok.ensures.answered;
+  spent = c.in-Ok.ensures.spent;
   flags = each_flags c.args.engine.now.states c.answer.new.engine.states (leaves_both c.take_inputs-took.ensures.leaves c.answer.ensures.leaves).states;
 }
 

@@ -28,9 +28,9 @@ returns-else-is_sent-clause-unready g c off settled open_at =
     (unsent_there c.args.engine.now.log c.args.i (sym c.is_sent.ensures ∙ c.if-is_sent.false))
 
 pub returns-then-is_sent-clause-early : goal.returns-then-is_sent-clause-early
-returns-then-is_sent-clause-early g c off settled open_at fit tick =
+returns-then-is_sent-clause-early g c off settled open_at fit host tick =
     let r = c.requires in
-    c.has_inputs.ensures.early off fit (none_taken_there g.P.Port.observed c.args.engine.now r.stands c.args.i r.within settled r.joins) tick.due
+    c.has_inputs.ensures.early off fit host (none_taken_there g.P.Port.observed c.args.engine.now r.stands c.args.i r.within settled r.joins) tick.due
 
 pub returns-else-is_sent-clause-early : goal.returns-else-is_sent-clause-early
-returns-else-is_sent-clause-early g c off settled open_at fit tick = let no = sym tick.sent ∙ (sym c.is_sent.ensures ∙ c.if-is_sent.false) in cc
+returns-else-is_sent-clause-early g c off settled open_at fit host tick = let no = sym tick.sent ∙ (sym c.is_sent.ensures ∙ c.if-is_sent.false) in cc

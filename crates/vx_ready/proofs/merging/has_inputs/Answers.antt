@@ -25,4 +25,4 @@ returns-clause-none g c off =
     or_from (not (is_empty (buffered h i))) (is_flush_due h i) (ap not (sym c.is_unbuffered.ensures ∙ c.if-not-is_unbuffered.false)) (sym c.must_flush.ensures ∙ off)
 
 pub returns-clause-early : goal.returns-clause-early
-returns-clause-early g c off fit none tick = c.is_check_due.ensures.early c.if-is_check_due.false fit none tick
+returns-clause-early g c off fit host none tick = c.is_check_due.ensures.early c.if-is_check_due.false fit host none tick

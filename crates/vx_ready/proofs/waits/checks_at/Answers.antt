@@ -23,18 +23,18 @@ pub returns-clause-open : goal.returns-clause-open
 returns-clause-open g c = some_then c.check_due.result (c.is_open.ensures.open c.if-not-is_open.false)
 
 pub returns-then-not-is_settled-clause-only : goal.returns-then-not-is_settled-clause-only
-returns-then-not-is_settled-clause-only g c settled open_at joins fit now tick = absurd (c.is_settled.ensures.not c.if-not-is_settled.true settled)
+returns-then-not-is_settled-clause-only g c settled open_at joins fit host now tick = absurd (c.is_settled.ensures.not c.if-not-is_settled.true settled)
 
 pub returns-then-not-is_open-clause-only : goal.returns-then-not-is_open-clause-only
-returns-then-not-is_open-clause-only g c settled open_at joins fit now tick = absurd (c.is_open.ensures.not c.if-not-is_open.true open_at)
+returns-then-not-is_open-clause-only g c settled open_at joins fit host now tick = absurd (c.is_open.ensures.not c.if-not-is_open.true open_at)
 
 pub returns-then-not-merges-clause-only : goal.returns-then-not-merges-clause-only
-returns-then-not-merges-clause-only g c settled open_at joins fit now tick = let no = sym joins ∙ (sym c.merges.ensures ∙ c.if-not-merges.true) in cc
+returns-then-not-merges-clause-only g c settled open_at joins fit host now tick = let no = sym joins ∙ (sym c.merges.ensures ∙ c.if-not-merges.true) in cc
 
 pub returns-then-not-is_sent-clause-only : goal.returns-then-not-is_sent-clause-only
-returns-then-not-is_sent-clause-only g c settled open_at joins fit now tick = let no = sym tick.sent ∙ (sym c.is_sent.ensures ∙ c.if-not-is_sent.true) in cc
+returns-then-not-is_sent-clause-only g c settled open_at joins fit host now tick = let no = sym tick.sent ∙ (sym c.is_sent.ensures ∙ c.if-not-is_sent.true) in cc
 
 pub returns-clause-only : goal.returns-clause-only
-returns-clause-only g c settled open_at joins fit now tick =
+returns-clause-only g c settled open_at joins fit host now tick =
     let r = c.requires in
-    c.check_due.ensures.only fit (none_taken_there g.P.Port.observed c.args.engine.now r.stands c.args.i r.within settled joins) now tick.due
+    c.check_due.ensures.only fit host (none_taken_there g.P.Port.observed c.args.engine.now r.stands c.args.i r.within settled joins) now tick.due

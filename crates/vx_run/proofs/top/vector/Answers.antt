@@ -70,8 +70,8 @@ returns-clause-answer g c =
     let o = c.perform_and_report-fault.result in
     let before = c.perform_and_report-fault.new.out in
     let after = c.sum_up-fault.new.out in
-    after_print (λ (f : Option Fault). IsAnswer c.args.words.now c.args.environment.now (g.W.World.texts c.args.world) (g.W.World.faults c.args.world) (g.W.World.faults c.perform_and_report-fault.new.world) o.history f) (after ≡ before) (g.P.Printer.printed before) (g.P.Printer.printed after) (g.P.Printer.faults before) (g.P.Printer.faults after)
-    o.summary o.fault c.sum_up-fault.result (λ text asked holds. answer_printed c.args.words.now c.args.environment.now (g.W.World.texts c.args.world) (g.W.World.faults c.args.world) (g.W.World.faults c.perform_and_report-fault.new.world) o.history o.fault o.summary text asked c.perform_and_report-fault.ensures.summary holds) c.sum_up-fault.ensures c.perform_and_report-fault.ensures.answer
+    after_print (λ (f : Option Fault). IsAnswer c.args.words.now c.args.environment.now (g.H.NamedHosts.names c.args.hosts) (g.W.World.texts c.args.world) (g.W.World.faults c.args.world) (g.W.World.faults c.perform_and_report-fault.new.world) o.history f) (after ≡ before) (g.P.Printer.printed before) (g.P.Printer.printed after) (g.P.Printer.faults before) (g.P.Printer.faults after)
+    o.summary o.fault c.sum_up-fault.result (λ text asked holds. answer_printed c.args.words.now c.args.environment.now (g.H.NamedHosts.names c.args.hosts) (g.W.World.texts c.args.world) (g.W.World.faults c.args.world) (g.W.World.faults c.perform_and_report-fault.new.world) o.history o.fault o.summary text asked c.perform_and_report-fault.ensures.summary holds) c.sum_up-fault.ensures c.perform_and_report-fault.ensures.answer
 
 pub returns-clause-said : goal.returns-clause-said
 returns-clause-said g c =

@@ -2,7 +2,6 @@ use Rattle.std.proofs.Common.{◌++◌, ◌∙◌, subst}
 use Rattle.vx_keeping.specs.Kept.{Kept, copies_kept}
 use Rattle.vx_keeping.specs.Given.{SameCopies}
 use Rattle.vx_keeping.specs.Stored.{kept_of}
-use Rattle.vx_keeping.specs.declared.store.Store.{Store}
 use Rattle.vx_keeping.proofs.Calls.{TakesTo, pushed_same, take_fit, take_unfit}
 use Rattle.vx_keeping.proofs.keeper.Keeper.take.Goals as goal
 
@@ -15,7 +14,7 @@ returns-then-not-self-clause-keeps c =
 pub returns-else-not-self-clause-keeps : goal.returns-else-not-self-clause-keeps
 returns-else-not-self-clause-keeps c =
     let f = c.self.inside in
-    let new : Store = record { reduce = f.store.reduce; taken = c.push.new.self; ready = f.store.ready; shelf = f.store.shelf } in
+    let new = record f.store { taken = c.push.new.self } in
     subst (λ (k : Kept). TakesTo k (kept_of new f.loose f.fit) c.args.parcel) c.self.view_is (take_fit f.store c.push.new.self f.loose f.fit c.args.parcel c.push.ensures.items c.push.ensures.room)
 
 pub returns-then-not-self-clause-same : goal.returns-then-not-self-clause-same
@@ -27,6 +26,6 @@ returns-then-not-self-clause-same c =
 pub returns-else-not-self-clause-same : goal.returns-else-not-self-clause-same
 returns-else-not-self-clause-same c =
     let f = c.self.inside in
-    let new : Store = record { reduce = f.store.reduce; taken = c.push.new.self; ready = f.store.ready; shelf = f.store.shelf } in
+    let new = record f.store { taken = c.push.new.self } in
     subst (λ (k : Kept). SameCopies (copies_kept k ++ c.args.parcel.finalizers) (copies_kept (kept_of new f.loose f.fit))) c.self.view_is
     (pushed_same f.store c.push.new.self f.loose f.fit c.args.parcel c.push.ensures.items)

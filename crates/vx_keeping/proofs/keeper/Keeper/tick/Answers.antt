@@ -1,4 +1,4 @@
-use Rattle.std.proofs.Common.{ℕ, List, [], ◌∷◌, ◌++◌, map, subst}
+use Rattle.std.proofs.Common.{ℕ, List, [], ◌∷◌, ◌++◌, subst}
 use Rattle.vx_record.specs.Records.{Record}
 use Rattle.vx_record.specs.Inputs.{Input as NotedInput}
 use Rattle.vx_reduce.specs.Inputs.{ticked}
@@ -10,27 +10,27 @@ use Rattle.vx_keeping.proofs.Calls.{more_then, short_same, short_then, with_loos
 use Rattle.vx_keeping.proofs.keeper.Keeper.tick.Goals as goal
 
 pub returns-in-Ok-clause-made : goal.returns-in-Ok-clause-made
-returns-in-Ok-clause-made c =
+returns-in-Ok-clause-made g c =
     let f = c.self.inside in
     let fits = c.if-not-self.false in
     let o = c.in-Ok.ensures in
-    subst (λ (k : Kept). (h : Record) (i : ℕ) (given : List NotedInput) → HasMade k h i given → HasMade (kept_of c.tick.new.self f.loose f.fit) h i (given ++ map noted_input (ticked c.args.now ∷ []))) c.self.view_is
-    (more_then (ticked c.args.now ∷ []) f.store c.tick.new.self f.loose f.fit fits (c.self.invariant.clear fits).1 o.given c.tick.ensures.same c.tick.ensures.taken)
+    subst (λ (k : Kept). (h : Record) (i : ℕ) (given : List NotedInput) → HasMade k h i given → HasMade (kept_of c.tick.new.self f.loose f.fit) h i (given ++ noted_input (ticked c.args.now) ∷ [])) c.self.view_is
+    (more_then (ticked c.args.now) f.store c.tick.new.self f.loose f.fit fits (c.self.invariant.clear fits).1 (o.made (c.self.invariant.clear fits).0) c.tick.ensures.same o.none (o.discarded (c.self.invariant.clear fits).0) c.tick.ensures.dropped)
 
 pub returns-in-Ok-clause-same : goal.returns-in-Ok-clause-same
-returns-in-Ok-clause-same c =
+returns-in-Ok-clause-same g c =
     let f = c.self.inside in
     subst (λ (k : Kept). SameCopies (copies_kept k) (copies_kept (kept_of c.tick.new.self f.loose f.fit))) c.self.view_is (with_loose f.loose f.store c.tick.new.self c.tick.ensures.same)
 
 pub returns-in-Err-clause-short : goal.returns-in-Err-clause-short
-returns-in-Err-clause-short c =
+returns-in-Err-clause-short g c =
     let f = c.self.inside in
     let u = c.make_unfit in
     subst (λ (k : Kept). (h : Record) (i : ℕ) → Accounts k h i → Keeps (kept_of u.new.store u.new.loose u.new.fit) h i) c.self.view_is
     (short_then f.store c.tick.new.self u.new.store f.loose u.new.loose f.fit u.new.fit u.ensures.unfit c.tick.ensures.same u.ensures.same)
 
 pub returns-in-Err-clause-same : goal.returns-in-Err-clause-same
-returns-in-Err-clause-same c =
+returns-in-Err-clause-same g c =
     let f = c.self.inside in
     let u = c.make_unfit in
     subst (λ (k : Kept). SameCopies (copies_kept k) (copies_kept (kept_of u.new.store u.new.loose u.new.fit))) c.self.view_is

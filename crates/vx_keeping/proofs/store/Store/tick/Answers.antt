@@ -1,23 +1,41 @@
-use Rattle.std.proofs.Common.{refl, [], ◌∷◌}
+use Rattle.std.proofs.Common.{[], ◌∷◌, refl, ◌∙◌}
 use Rattle.vx_reduce.specs.Inputs.{ticked}
-use Rattle.vx_keeping.specs.declared.store.Store.{Store}
-use Rattle.vx_keeping.proofs.Inputs.{given_tick}
-use Rattle.vx_keeping.proofs.Storing.{given_behind, stored_moved, ok_any}
+use Rattle.vx_keeping.proofs.Making.{ok_weaker}
+use Rattle.vx_keeping.proofs.Storing.{stored_acted, makes_all, kept_all, bare_all, none_by}
 use Rattle.vx_keeping.proofs.store.Store.tick.Goals as goal
 
 pub returns-in_err-tick-clause-same : goal.returns-in_err-tick-clause-same
-returns-in_err-tick-clause-same c =
-    let new : Store = record { reduce = c.tick.new.self; taken = c.args.self.now.taken; ready = c.args.self.now.ready; shelf = c.tick.new.shelf } in
-    stored_moved c.args.self.now new c.tick.new.shelf c.tick.ensures.moves refl refl refl
+returns-in_err-tick-clause-same g c = stored_acted c.args.self.now c.tick.new.self c.tick.new.shelf c.tick.ensures.same
 
-pub returns-clause-given : goal.returns-clause-given
-returns-clause-given c =
-    let o = c.in_ok-tick.ensures in
-    ok_any c.gather.result
-    (given_behind (ticked c.args.now ∷ []) c.args.self.now.reduce c.tick.new.self c.args.self.now.shelf c.tick.new.shelf c.gather.new.shelf c.args.self.now.ready.items c.gather.new.ready.items
-    (given_tick c.args.now c.args.self.now.reduce c.tick.new.self c.args.self.now.shelf c.tick.new.shelf o.checked o.goes_on o.puts_out o.moves) c.gather.ensures.all c.gather.ensures.dropped)
+pub returns-clause-made : goal.returns-clause-made
+returns-clause-made g c =
+    let old = c.args.self.now in
+    let mid = record old { maker = c.tick.new.self; shelf = c.tick.new.shelf } in
+    let new = c.gather_made.new.self in
+    let e = c.gather_made.ensures in
+    ok_weaker c.gather_made.result (λ off bare taken. makes_all old mid new e.maker (ticked c.args.now ∷ []) [] [] [] c.in_ok-tick.ensures.given off refl (λ none. refl)
+    (λ w. stored_acted old c.tick.new.self c.tick.new.shelf c.tick.ensures.same w ∙ e.same w) taken bare) e.gathers
+
+pub returns-clause-discarded : goal.returns-clause-discarded
+returns-clause-discarded g c =
+    let old = c.args.self.now in
+    let mid = record old { maker = c.tick.new.self; shelf = c.tick.new.shelf } in
+    let new = c.gather_made.new.self in
+    let e = c.gather_made.ensures in
+    ok_weaker c.gather_made.result (λ off bare taken. kept_all old mid new e.maker (ticked c.args.now ∷ []) [] [] c.in_ok-tick.ensures.given off refl refl
+    (λ w. stored_acted old c.tick.new.self c.tick.new.shelf c.tick.ensures.same w ∙ e.same w) bare taken) e.gathers
+
+pub returns-clause-none : goal.returns-clause-none
+returns-clause-none g c =
+    let mid = record c.args.self.now { maker = c.tick.new.self; shelf = c.tick.new.shelf } in
+    ok_weaker c.gather_made.result (λ off none. none_by mid c.gather_made.new.self _ off none) c.gather_made.ensures.gathers
+
+pub returns-clause-bare : goal.returns-clause-bare
+returns-clause-bare g c =
+    let old = c.args.self.now in
+    let mid = record old { maker = c.tick.new.self; shelf = c.tick.new.shelf } in
+    let e = c.gather_made.ensures in
+    ok_weaker c.gather_made.result (λ off bare. bare_all old mid c.gather_made.new.self e.maker (ticked c.args.now ∷ []) [] [] c.in_ok-tick.ensures.given off bare) e.gathers
 
 pub returns-clause-same : goal.returns-clause-same
-returns-clause-same c =
-    let new : Store = record { reduce = c.tick.new.self; taken = c.args.self.now.taken; ready = c.gather.new.ready; shelf = c.gather.new.shelf } in
-    stored_moved c.args.self.now new c.tick.new.shelf c.tick.ensures.moves refl c.gather.ensures.all c.gather.ensures.dropped
+returns-clause-same g c = λ w. stored_acted c.args.self.now c.tick.new.self c.tick.new.shelf c.tick.ensures.same w ∙ c.gather_made.ensures.same w

@@ -18,6 +18,6 @@ returns-clause-none g c =
     (checks_all d.log c.args.i c.due.result (keeper_at d.keepers.items c.args.i) (c.requires.stands.keeps c.args.i) c.due.ensures.due).1
 
 pub returns-clause-only : goal.returns-clause-only
-returns-clause-only g c fit none now tick =
+returns-clause-only g c fit no_host none now tick =
     let d = c.args.self.now in
-    checks_only d.log c.args.i c.due.result (keeper_at d.keepers.items c.args.i) (c.requires.stands.keeps c.args.i) fit c.due.ensures.only none now tick
+    checks_only d.log c.args.i c.due.result (keeper_at d.keepers.items c.args.i) (c.requires.stands.keeps c.args.i) fit c.due.ensures.only no_host none now tick

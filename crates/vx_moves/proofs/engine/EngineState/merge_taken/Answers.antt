@@ -1,7 +1,8 @@
 use Rattle.vx_keeping.specs.Keeping.{taken_in}
 use Rattle.vx_keeping.proofs.Answering.{to_answer_taken}
 use Rattle.vx_moves.specs.Keepers.{keeper_at}
-use Rattle.vx_moves.proofs.Merging.{failed_kept, fit_both, fit_then, keeper_there, made_fit, noted_answer, on_error, one_wider, taken_made}
+use Rattle.vx_moves.proofs.Discarding.{answered_only, none_waits_then, noted_answer, noted_joins}
+use Rattle.vx_moves.proofs.Merging.{failed_kept, fit_both, fit_then, keeper_there, made_fit, made_runs, on_error, one_wider, taken_made}
 use Rattle.vx_moves.proofs.engine.EngineState.merge_taken.Goals as goal
 
 pub answer-requires-clause-there : goal.answer-requires-clause-there
@@ -33,17 +34,52 @@ note_made-requires-clause-made g c =
     (rw c.reserve_made.ensures.unchanged at
     (c.in_ok-reserve_made.ensures.made (taken_in h i) (taken_made i c.requires.stands c.args.now c.requires.may.moment c.in_ok-answer.ensures.made)))
 
+pub note_made-requires-clause-may : goal.note_made-requires-clause-may
+note_made-requires-clause-may g c =
+    let mid = c.reserve_made.new.self in
+    let i = c.args.i in
+    let may = c.requires.may in
+    let same = c.reserve_made.ensures.unchanged in
+    let made = c.in_ok-reserve_made.ensures.made (taken_in c.args.self.now.log i) (taken_made i c.requires.stands c.args.now may.moment c.in_ok-answer.ensures.made) in
+    let all = to_answer_taken c.args.self.now.log i may.unticked c.requires.took in
+    record {
+      joins = rw same may.joins;
+      going = rw same may.going;
+      out = rw same may.out;
+      runs = made_runs mid.log i (keeper_at mid.keepers.items i) made.legal (rw (same, all) (rw same at made.keeps.made)) (rw same c.requires.holds);
+      flush = λ none. absurd (c.requires.took (rw same at none));
+    }
+
+pub spend_discarded-requires-clause-joins : goal.spend_discarded-requires-clause-joins
+spend_discarded-requires-clause-joins g c =
+    let k = c.reserve_made.new.self in
+    noted_joins k.log c.note_made.new.self.log c.args.i c.args.i (keeper_at k.keepers.items c.args.i) c.note_made.ensures.noted (rw c.reserve_made.ensures.unchanged c.requires.may.joins)
+
+pub returns-clause-only : goal.returns-clause-only
+returns-clause-only g c =
+    let k = c.reserve_made.new.self in
+    rw c.reserve_made.ensures.unchanged at
+    (answered_only k.log c.note_made.new.self.log c.spend_discarded.new.self.log c.args.i c.note_made.ensures.stands.legal c.spend_discarded.ensures.only
+    (keeper_at k.keepers.items c.args.i) c.note_made.ensures.noted)
+
 pub returns-clause-noted : goal.returns-clause-noted
 returns-clause-noted g c =
-    let k = c.reserve_made.new.self.keepers.items in
+    let k = c.reserve_made.new.self in
     rw c.reserve_made.ensures.unchanged at
-    (noted_answer c.reserve_made.new.self.log c.note_made.new.self.log c.args.i (keeper_at k c.args.i) c.note_made.ensures.noted)
+    (noted_answer k.log c.note_made.new.self.log c.spend_discarded.new.self.log c.args.i c.note_made.ensures.stands.legal c.spend_discarded.ensures.only
+    (keeper_at k.keepers.items c.args.i) c.note_made.ensures.noted c.spend_discarded.ensures.spent)
+
+pub returns-clause-answered : goal.returns-clause-answered
+returns-clause-answered g c =
+    none_waits_then c.args.i c.note_made.new.self.log c.spend_discarded.new.self.log c.spend_discarded.ensures.only c.note_made.ensures.answered
 
 pub returns-clause-fit : goal.returns-clause-fit
 returns-clause-fit g c =
-    let made = c.in_ok-answer.ensures.made in
-    fit_both c.args.i c.args.self.now.keepers.items c.answer.new.keepers.items c.note_made.new.self.keepers.items (λ was is answers. answers.stays) made
-    (rw c.in_ok-reserve_made.ensures.kept at c.note_made.ensures.fit)
+    let i = c.args.i in
+    let noted = rw c.in_ok-reserve_made.ensures.kept at c.note_made.ensures.fit in
+    let first = fit_both i c.args.self.now.keepers.items c.answer.new.keepers.items c.note_made.new.self.keepers.items (λ was is answers. answers.stays)
+    c.in_ok-answer.ensures.made noted in
+    fit_both i c.args.self.now.keepers.items c.note_made.new.self.keepers.items c.spend_discarded.new.self.keepers.items (λ was is stays. stays) first c.spend_discarded.ensures.fit
 
 pub returns-in_err-answer-clause-unfit : goal.returns-in_err-answer-clause-unfit
 returns-in_err-answer-clause-unfit g c =

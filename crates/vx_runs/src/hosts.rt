@@ -1,0 +1,64 @@
+//! Whole runs through transforms that the program hands in.
+
+use crate::fixtures::{Play, steps};
+use crate::runs::{EMPTY, Run, played_by, runs, were_given};
+use std::test::Fail;
+use vx_keeping::{HostList, HostTransform, Hosted, Numbering};
+use vx_value::Text;
+
+/// A console behind a transform that is handed in.
+const HANDED_IN: &str = "[sources.in]
+type = \"stdin\"
+
+[transforms.numbering]
+type = \"host\"
+inputs = [\"in\"]
+
+[sinks.out]
+type = \"console\"
+inputs = [\"numbering\"]
+encoding.codec = \"json\"
+";
+
+/// A run through a numbering of two lines.
+const NUMBERED: Run = Run {
+    text: HANDED_IN,
+    steps: &[Play::Piece(0, "a\nb\n")],
+    shown: "source in read=4 lines=2 overlong=0 undecodable=0 events=2 unread=0 batches=1 delivered=1 errored=0 rejected=0 confirmed=4
+transform numbering taken=2 sent=2 dropped=0 unread=0
+sink out taken=2 newest=0 attempts=2 delivered=2 errored=0 rejected=0 bytes=98
+",
+    given: &[
+        "",
+        "",
+        "{\"message\":\"a\",\"number\":0,\"source_type\":\"stdin\"}\n{\"message\":\"b\",\"number\":1,\"source_type\":\"stdin\"}\n",
+    ],
+    ..EMPTY
+};
+
+/// The same text, where no such transform is handed in.
+const UNKNOWN: Run = Run {
+    text: HANDED_IN,
+    status: 78,
+    printed: "vector: no host transform numbering\n",
+    shown: "",
+    given: &[],
+    ..EMPTY
+};
+
+#[test]
+fn host_numbering(rt: HostRuntime) -> Result<(), Fail> {
+    let alloc = rt.alloc();
+    let name = Text::copy_of(alloc, "numbering")?;
+    let numbering = Box::new(alloc, Hosted::new(Numbering::new()))?;
+    let mut hosts = HostList::new(alloc);
+    hosts.push(HostTransform::new(name, numbering))?;
+    let ended = played_by(&rt, alloc, &NUMBERED, steps(alloc, NUMBERED.steps)?, hosts)?;
+    were_given(&rt, &ended, NUMBERED.given);
+    Ok(())
+}
+
+#[test]
+fn host_that_is_not_handed_in(rt: HostRuntime) -> Result<(), Fail> {
+    runs(&rt, rt.alloc(), &UNKNOWN)
+}
