@@ -18,8 +18,10 @@ MESSAGES = '[sinks.out]\ntype = "console"\ninputs = ["in"]\nencoding.codec = "te
 EVENTS = MESSAGES.replace('"text"', '"json"')
 THINNED = str(TOP / "examples" / "thinned.toml")
 REDUCED = str(TOP / "examples" / "reduced.toml")
+NUMBERED = str(TOP / "examples" / "numbered.toml")
 TRACES = TOP / "examples" / "traces.log"
 FILTERED = EVENTS.replace('["in"]', '["f"]')
+HOSTED = EVENTS.replace('["in"]', '["numbering"]') + '[transforms.numbering]\ntype = "host"\ninputs = ["in"]\n'
 
 
 def reading(source, **counted):
@@ -363,6 +365,19 @@ def merged():
     check("lines of stack traces", seen == (0, wanted, b""), seen)
 
 
+def numbered():
+    """Events that a host numbers, whatever stood there, and in their order."""
+    lines = [f"line {n}" for n in range(5000)]
+    wanted = b"".join(written({"message": line, "number": n, "source_type": "stdin"}) for n, line in enumerate(lines))
+    seen = run("".join(line + "\n" for line in lines).encode(), ["--config", NUMBERED])
+    check("lines that a host numbers", seen == (0, wanted, b""), (seen[0], len(seen[1]), len(wanted), seen[2]))
+    events = [{"number": held, "z": [n], "source_type": "stdin"} for n, held in enumerate([None, "a", 7, {"number": 1}, [], 2.5])]
+    wanted = b"".join(written(event | {"number": n}) for n, event in enumerate(events))
+    given = b"".join(map(written, events))
+    seen = outcome_of(OBJECTS + HOSTED, given)
+    check("objects that a host numbers", seen == (0, wanted, b""), seen)
+
+
 def components():
     """The counts of components stand by the bytes of their names, whatever the order of the configuration, and so do those of no lines."""
     sinks = '[sinks.b]\ntype = "console"\ntarget = "stderr"\ninputs = ["i*", "in"]\nencoding.codec = "text"\n[sinks.B]\ntype = "blackhole"\ninputs = ["in"]\n'
@@ -374,4 +389,4 @@ def components():
 
 
 if __name__ == "__main__":
-    sys.exit(go_through([objects, messages, lengths, conditions, variables, transforms, thinned, merged, components]))
+    sys.exit(go_through([objects, messages, lengths, conditions, variables, transforms, thinned, merged, numbered, components]))

@@ -21,6 +21,7 @@ BEFORE_ROUTE = SOURCE + SINK + '[transforms.t]\ntype = "route"\ninputs = ["in"]\
 BEFORE_SAMPLE = BEFORE_FILTER.replace('"filter"', '"sample"')
 BEFORE_DEDUPE = BEFORE_FILTER.replace('"filter"', '"dedupe"')
 BEFORE_REDUCE = BEFORE_FILTER.replace('"filter"', '"reduce"')
+BEFORE_HOST = SOURCE + SINK + '[transforms.numbering]\ntype = "host"\n'
 BEFORE_ROUTED = BEFORE_ROUTE.replace(SINK, "") + "route.a = 'exists(.a)'\n" + BEFORE_INPUTS.replace(SOURCE, "")
 
 # what one line of two bytes comes to
@@ -374,6 +375,14 @@ REDUCE_OPTIONS = [
     ("max_events = 1", "unknown option transforms.t.max_events"),
 ]
 
+# options of a host that the program has
+HOST_OPTIONS = [
+    ('inputs = ["in"]', None),
+    ("", "no inputs of component numbering"),
+    ('inputs = ["in"]\nnumber = 1', "unknown option transforms.numbering.number"),
+    ('inputs = ["in"]\ncondition = "true"', "unknown option transforms.numbering.condition"),
+]
+
 # inputs of the sink, where a route has the ports a and _unmatched
 ROUTE_INPUTS = [
     ('inputs = ["t.a"]', None),
@@ -572,7 +581,7 @@ def configurations():
     tables = [
         ("", WHOLE, ""), (SOURCE, COMPONENTS, "\n" + SINK), (BEFORE_OPTIONS, SINK_OPTIONS, "\n"), (BEFORE_OPTIONS, BUFFERS, "\n"), (BEFORE_OPTIONS, BATCHES, "\n"), (BEFORE_OPTIONS, RETRIES, "\n"), (SOURCE, SOURCE_OPTIONS, "\n" + SINK),
         (SOURCE.replace("stdin", "demo_logs"), DEMO_OPTIONS, "\n" + SINK), (BEFORE_OPTIONS.replace("console", "blackhole"), BLACKHOLE_OPTIONS, "\n"),
-        (BEFORE_FILTER, FILTER_OPTIONS, "\n"), (BEFORE_ROUTE, ROUTE_OPTIONS, "\n"), (BEFORE_SAMPLE, SAMPLE_OPTIONS, "\n"), (BEFORE_DEDUPE, DEDUPE_OPTIONS, "\n"), (BEFORE_REDUCE, REDUCE_OPTIONS, "\n"), (BEFORE_ROUTED, ROUTE_INPUTS, "\n"),
+        (BEFORE_FILTER, FILTER_OPTIONS, "\n"), (BEFORE_ROUTE, ROUTE_OPTIONS, "\n"), (BEFORE_SAMPLE, SAMPLE_OPTIONS, "\n"), (BEFORE_DEDUPE, DEDUPE_OPTIONS, "\n"), (BEFORE_REDUCE, REDUCE_OPTIONS, "\n"), (BEFORE_HOST, HOST_OPTIONS, "\n"), (BEFORE_ROUTED, ROUTE_INPUTS, "\n"),
         (BEFORE_INPUTS, INPUTS, "\n"), ("", FILES, "\n"), ("", TWO_FAULTS, ""), ("", FORMS, ""), ("", NAMES, ""),
         ("", [(graph(rows), why) for rows, why in GRAPHS], ""),
     ]
@@ -585,6 +594,18 @@ def configurations():
         asking = SOURCE + SINK.replace("console", "${VECTOR_KIND:-console}").replace('"text"', '"$VECTOR_CODEC"')
         judged(folder, asking, "bad value at sinks.out.encoding.codec", {b"VECTOR_CODEC": b"bytes"})
         judged(folder, asking, None, {b"VECTOR_CODEC": b"json"})
+
+
+def hosts():
+    """Hosts that the program doesn't have: their configuration is accepted, and a run ends, named the least of their names."""
+    with tempfile.TemporaryDirectory() as folder:
+        for names, least in [(["t"], "t"), (["numbering", "numbers"], "numbers"), (["number", "b", "a_", "a"], "a"), (["n" * 64, "numbering"], "n" * 64)]:
+            text = SOURCE + SINK + "".join(f'[transforms.{name}]\ntype = "host"\ninputs = ["in"]\n' for name in names)
+            (Path(folder) / "other.toml").write_text(text)
+            seen = run(b"", ["validate", "other.toml"], cwd=folder)
+            check(f"hosts are judged: {names}"[:300], seen == (0, b"valid: 1 sources, %d transforms, 1 sinks\n" % len(names), b""), seen)
+            seen = run(b"", ["--config", "other.toml"], cwd=folder)
+            check(f"hosts aren't there: {names}"[:300], seen == (78, b"", f"vector: no host transform {least}\n".encode()), seen)
 
 
 def faults_of_one_line():
@@ -656,4 +677,4 @@ def script():
 
 
 if __name__ == "__main__":
-    sys.exit(go_through([words, files, script, configurations, faults_of_one_line, forms_of_one_option, as_many_as_may_be]))
+    sys.exit(go_through([words, files, script, configurations, hosts, faults_of_one_line, forms_of_one_option, as_many_as_may_be]))
