@@ -1,5 +1,0 @@
-use Rattle.vx_hub.specs.Standing.{IsHub}
-use Rattle.vx_runs.proofs.by_hand.drive.Given as goal
-
-abbrev pub invariant-loop : goal.invariant-loop
-invariant-loop g l = IsHub g.P.Port.observed l.hub
