@@ -16,7 +16,7 @@ use Rattle.vx_cli.specs.Commands.{IsCommand, IsNoCommand}
 use Rattle.vx_cli.specs.Grammars.{config_option, once_flag, run_grammar, stats_flag, validate_grammar}
 use Rattle.vx_cli.specs.Spellings.{IsHyphened}
 use Rattle.vx_cli.specs.declared.command.Command.TheVariants.{Run, Validate}
-use Rattle.vx_cli.proofs.Spelled.{is_faulty, no_run, no_validate, run_of, validate_of}
+use Rattle.vx_cli.proofs.Spelled.{first_byte, is_faulty, no_run, no_validate, run_of, validate_of}
 
 -- ---- kinds of faults, one after the other
 
@@ -162,21 +162,21 @@ short_before : walked config [] (walk_from nothing_held) (codes "-c") ≡ before
 unfolding clap_on_literals
 short_before = refl
 
-pub long_hyphened : (word : ByteString) (rest : List ByteString) → IsUtf8 word → IsHyphened word → IsNoCommand (codes "--config" ∷ word ∷ rest)
-long_hyphened [] rest u h = absurd h
-long_hyphened (a ∷ []) rest u h = absurd h
-long_hyphened (a ∷ b ∷ w) rest u h =
+hyphened : (start : ByteString) → walked config [] (walk_from nothing_held) start ≡ before → ((rest : List ByteString) → Refused start (codes "--") rest)
+    → ((words : List ByteString) → (first_byte (start ∷ words) == 118) ≡ false)
+    → (word : ByteString) (rest : List ByteString) → IsUtf8 word → IsHyphened word → IsNoCommand (start ∷ word ∷ rest)
+hyphened start same dashes other [] rest u h = absurd h
+hyphened start same dashes other (a ∷ []) rest u h = absurd h
+hyphened start same dashes other (a ∷ b ∷ w) rest u h =
     let utf8 : IsUtf8 (45 ∷ b ∷ w) = subst (λ x. IsUtf8 (x ∷ b ∷ w)) h u in
-    subst (λ x. IsNoCommand (codes "--config" ∷ (x ∷ b ∷ w) ∷ rest)) (sym h)
-    (no_run (codes "--config" ∷ (45 ∷ b ∷ w) ∷ rest) refl (by_test (codes "--config") long_before long_dashes (b == 45) b w rest refl utf8))
+    subst (λ x. IsNoCommand (start ∷ (x ∷ b ∷ w) ∷ rest)) (sym h)
+    (no_run (start ∷ (45 ∷ b ∷ w) ∷ rest) (other ((45 ∷ b ∷ w) ∷ rest)) (by_test start same dashes (b == 45) b w rest refl utf8))
+
+pub long_hyphened : (word : ByteString) (rest : List ByteString) → IsUtf8 word → IsHyphened word → IsNoCommand (codes "--config" ∷ word ∷ rest)
+long_hyphened = hyphened (codes "--config") long_before long_dashes (λ words. refl)
 
 pub short_hyphened : (word : ByteString) (rest : List ByteString) → IsUtf8 word → IsHyphened word → IsNoCommand (codes "-c" ∷ word ∷ rest)
-short_hyphened [] rest u h = absurd h
-short_hyphened (a ∷ []) rest u h = absurd h
-short_hyphened (a ∷ b ∷ w) rest u h =
-    let utf8 : IsUtf8 (45 ∷ b ∷ w) = subst (λ x. IsUtf8 (x ∷ b ∷ w)) h u in
-    subst (λ x. IsNoCommand (codes "-c" ∷ (x ∷ b ∷ w) ∷ rest)) (sym h)
-    (no_run (codes "-c" ∷ (45 ∷ b ∷ w) ∷ rest) refl (by_test (codes "-c") short_before short_dashes (b == 45) b w rest refl utf8))
+short_hyphened = hyphened (codes "-c") short_before short_dashes (λ words. refl)
 
 -- ---- the words of a judgement
 

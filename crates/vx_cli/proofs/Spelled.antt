@@ -18,7 +18,7 @@ no_hyphen : (b : ℕ) (word : ByteString) → IsPlain (b ∷ word) → (b == 45)
 no_hyphen b word plain = apart b 45 (λ e. plain word (ap (λ x. x ∷ word) e))
 
 -- the first byte of the first word
-abbrev first_byte : List ByteString → ℕ
+abbrev pub first_byte : List ByteString → ℕ
 first_byte [] = 0
 first_byte ([] ∷ ws) = 0
 first_byte ((b ∷ w) ∷ ws) = b
@@ -42,65 +42,19 @@ validate_of rest file taken value = record { rest = rest; named = refl; taken = 
 
 -- ---- files
 
-long-taken : (file : ByteString) → IsPlain file → IsTaken run_grammar (codes "--config" ∷ file ∷ [])
-unfolding clap_on_literals
-long-taken [] plain = refl
-long-taken (b ∷ word) plain = simp (no_hyphen b word plain)
-
-long-value : (file : ByteString) → IsPlain file → HasValue run_grammar (codes "--config" ∷ file ∷ []) (codes "config") file
-unfolding clap_on_literals
-long-value [] plain = refl
-long-value (b ∷ word) plain = simp (no_hyphen b word plain)
-
-long-endless : (file : ByteString) → IsPlain file → has_once (codes "--config" ∷ file ∷ []) ≡ false
-unfolding clap_on_literals
-long-endless [] plain = refl
-long-endless (b ∷ word) plain = simp (no_hyphen b word plain)
-
-long-silent : (file : ByteString) → IsPlain file → has_stats (codes "--config" ∷ file ∷ []) ≡ false
-unfolding clap_on_literals
-long-silent [] plain = refl
-long-silent (b ∷ word) plain = simp (no_hyphen b word plain)
-
-short-taken : (file : ByteString) → IsPlain file → IsTaken run_grammar (codes "-c" ∷ file ∷ [])
-unfolding clap_on_literals
-short-taken [] plain = refl
-short-taken (b ∷ word) plain = simp (no_hyphen b word plain)
-
-short-value : (file : ByteString) → IsPlain file → HasValue run_grammar (codes "-c" ∷ file ∷ []) (codes "config") file
-unfolding clap_on_literals
-short-value [] plain = refl
-short-value (b ∷ word) plain = simp (no_hyphen b word plain)
-
-short-endless : (file : ByteString) → IsPlain file → has_once (codes "-c" ∷ file ∷ []) ≡ false
-unfolding clap_on_literals
-short-endless [] plain = refl
-short-endless (b ∷ word) plain = simp (no_hyphen b word plain)
-
-short-silent : (file : ByteString) → IsPlain file → has_stats (codes "-c" ∷ file ∷ []) ≡ false
-unfolding clap_on_literals
-short-silent [] plain = refl
-short-silent (b ∷ word) plain = simp (no_hyphen b word plain)
-
-validate-taken : (file : ByteString) → IsPlain file → IsTaken validate_grammar (file ∷ [])
-unfolding clap_on_literals
-validate-taken [] plain = refl
-validate-taken (b ∷ word) plain = simp (no_hyphen b word plain)
-
-validate-value : (file : ByteString) → IsPlain file → HasValue validate_grammar (file ∷ []) (codes "path") file
-unfolding clap_on_literals
-validate-value [] plain = refl
-validate-value (b ∷ word) plain = simp (no_hyphen b word plain)
-
 pub long : (file : ByteString) → IsPlain file → IsCommand (codes "--config" ∷ file ∷ []) (Run file false false)
-long file plain = run_of _ file false false refl (long-taken file plain) (long-value file plain) (long-endless file plain) (long-silent file plain)
+unfolding clap_on_literals
+long [] plain = run_of _ _ false false refl refl refl refl refl
+long (b ∷ word) plain = let other = no_hyphen b word plain in run_of _ _ false false refl (simp other) (simp other) (simp other) (simp other)
 
 pub long_sign : (file : ByteString) → IsCommand ((codes "--config=" ++ file) ∷ []) (Run file false false)
 unfolding clap_on_literals
 long_sign file = run_of _ file false false refl refl refl refl refl
 
 pub short : (file : ByteString) → IsPlain file → IsCommand (codes "-c" ∷ file ∷ []) (Run file false false)
-short file plain = run_of _ file false false refl (short-taken file plain) (short-value file plain) (short-endless file plain) (short-silent file plain)
+unfolding clap_on_literals
+short [] plain = run_of _ _ false false refl refl refl refl refl
+short (b ∷ word) plain = let other = no_hyphen b word plain in run_of _ _ false false refl (simp other) (simp other) (simp other) (simp other)
 
 pub short_sign : (file : ByteString) → IsCommand ((codes "-c=" ++ file) ∷ []) (Run file false false)
 unfolding clap_on_literals
@@ -131,7 +85,9 @@ unfolding clap_on_literals
 once_and_stats file = run_of _ file true true refl refl refl refl refl
 
 pub validate : (file : ByteString) → IsPlain file → IsCommand (codes "validate" ∷ file ∷ []) (Validate file)
-validate file plain = validate_of _ file (validate-taken file plain) (validate-value file plain)
+unfolding clap_on_literals
+validate [] plain = validate_of _ _ refl refl
+validate (b ∷ word) plain = validate_of _ _ (simp (no_hyphen b word plain)) (simp (no_hyphen b word plain))
 
 pub behind_dashes : (file : ByteString) → IsCommand (codes "validate" ∷ codes "--" ∷ file ∷ []) (Validate file)
 unfolding clap_on_literals
@@ -211,27 +167,21 @@ pub once_value : (file value : ByteString) → IsNoCommand ((codes "--once=" ++ 
 unfolding clap_on_literals
 once_value file value = no_run _ refl refl
 
-more-faulty : (file word : ByteString) → IsPlain word → is_faulty (fault_of run_grammar ((codes "--config=" ++ file) ∷ word ∷ [])) ≡ true
-unfolding clap_on_literals
-more-faulty file [] plain = refl
-more-faulty file (b ∷ word) plain = simp (no_hyphen b word plain)
-
 pub more : (file word : ByteString) → IsPlain word → IsNoCommand ((codes "--config=" ++ file) ∷ word ∷ [])
-more file word plain = no_run _ refl (more-faulty file word plain)
+unfolding clap_on_literals
+more file [] plain = no_run _ refl refl
+more file (b ∷ word) plain = no_run _ refl (simp (no_hyphen b word plain))
 
 pub validate_alone : IsNoCommand (codes "validate" ∷ [])
 unfolding clap_on_literals
 validate_alone = no_validate [] refl
 
-two-faulty : (file word : ByteString) → IsPlain file → IsPlain word → is_faulty (fault_of validate_grammar (file ∷ word ∷ [])) ≡ true
-unfolding clap_on_literals
-two-faulty [] [] p q = refl
-two-faulty [] (b ∷ word) p q = simp (no_hyphen b word q)
-two-faulty (a ∷ file) [] p q = simp (no_hyphen a file p)
-two-faulty (a ∷ file) (b ∷ word) p q = simp (no_hyphen a file p, no_hyphen b word q)
-
 pub validate_two : (file word : ByteString) → IsPlain file → IsPlain word → IsNoCommand (codes "validate" ∷ file ∷ word ∷ [])
-validate_two file word p q = no_validate _ (two-faulty file word p q)
+unfolding clap_on_literals
+validate_two [] [] p q = no_validate _ refl
+validate_two [] (b ∷ word) p q = no_validate _ (simp (no_hyphen b word q))
+validate_two (a ∷ file) [] p q = no_validate _ (simp (no_hyphen a file p))
+validate_two (a ∷ file) (b ∷ word) p q = no_validate _ (simp (no_hyphen a file p, no_hyphen b word q))
 
 pub validate_option : (file : ByteString) → IsNoCommand (codes "validate" ∷ (codes "--config=" ++ file) ∷ [])
 unfolding clap_on_literals

@@ -1,4 +1,5 @@
-ghost use Rattle.std.specs.Prelude.{◌≡◌, IfOk, string_bytes};
+ghost use Rattle.std.specs.Prelude.{◌≡◌, ◌++◌, IfOk, string_bytes};
+ghost use Rattle.vx_cli.specs.Shown.{shown};
 ghost use Rattle.vx_cli.specs.Texts.{listed, of_component, graph_text, plan_text};
 
 use crate::showing::shown;
@@ -17,22 +18,10 @@ pub(crate) fn plan_text(alloc: Global, fault: &PlanFault) -> Result<String, Allo
             format!(in alloc; "missing variable {name} at {at}")
         }
         PlanFault::NotToml => format!(in alloc; "not a TOML document"),
-        PlanFault::UnknownKind { path } => {
-            let path = shown(alloc, path)?;
-            format!(in alloc; "unknown kind at {path}")
-        }
-        PlanFault::UnknownOption { path } => {
-            let path = shown(alloc, path)?;
-            format!(in alloc; "unknown option {path}")
-        }
-        PlanFault::MissingOption { path } => {
-            let path = shown(alloc, path)?;
-            format!(in alloc; "missing option {path}")
-        }
-        PlanFault::BadValue { path } => {
-            let path = shown(alloc, path)?;
-            format!(in alloc; "bad value at {path}")
-        }
+        PlanFault::UnknownKind { path } => told_at(alloc, "unknown kind at ", path),
+        PlanFault::UnknownOption { path } => told_at(alloc, "unknown option ", path),
+        PlanFault::MissingOption { path } => told_at(alloc, "missing option ", path),
+        PlanFault::BadValue { path } => told_at(alloc, "bad value at ", path),
         PlanFault::TooMany { path, found, limit } => {
             let path = shown(alloc, path)?;
             format!(in alloc; "too many at {path}: {found}, limit {limit}")
@@ -70,8 +59,15 @@ fn graph_text(alloc: Global, fault: &GraphFault) -> Result<String, AllocError>
 fn of_component(alloc: Global, name: &Text) -> Result<String, AllocError>
     ensures { IfOk result (λ place. string_bytes place ≡ of_component name.now) }
 {
+    told_at(alloc, " of component ", name)
+}
+
+/// What is wrong, and a name or a path behind it as it is printed.
+fn told_at(alloc: Global, what: &str, name: &Text) -> Result<String, AllocError>
+    ensures { IfOk result (λ text. string_bytes text ≡ what.now ++ shown name.now) }
+{
     let name = shown(alloc, name)?;
-    format!(in alloc; " of component {name}")
+    format!(in alloc; "{what}{name}")
 }
 
 /// Names as they are printed, with a comma and a blank between two of them. They are those of a cycle, which has at most 256.

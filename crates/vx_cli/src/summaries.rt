@@ -46,15 +46,9 @@ fn source_line(alloc: Global, name: &str, tally: &Tally) -> Result<String, Alloc
 fn transform_line(alloc: Global, name: &str, tally: &Tally) -> Result<String, AllocError>
     ensures { IfOk result (λ line. string_bytes line ≡ transform_line name.now tally.now) }
 {
-    let Tally {
-        taken,
-        sent,
-        dropped,
-        unread,
-        ..
-    } = *tally;
     format!(in alloc;
-        "transform {name} taken={taken} sent={sent} dropped={dropped} unread={unread}\n"
+        "transform {name} taken={} sent={} dropped={} unread={}\n",
+        tally.taken, tally.sent, tally.dropped, tally.unread
     )
 }
 
@@ -72,51 +66,38 @@ fn sink_line(alloc: Global, name: &str, tally: &Tally) -> Result<String, AllocEr
 fn lines_text(alloc: Global, tally: &Tally) -> Result<String, AllocError>
     ensures { IfOk result (λ text. string_bytes text ≡ lines_text tally.now) }
 {
-    let Tally {
-        read,
-        lines,
-        overlong,
-        undecodable,
-        ..
-    } = *tally;
-    format!(in alloc; " read={read} lines={lines} overlong={overlong} undecodable={undecodable}")
+    format!(in alloc;
+        " read={} lines={} overlong={} undecodable={}",
+        tally.read, tally.lines, tally.overlong, tally.undecodable
+    )
 }
 
 /// The events and batches that a source made.
 fn batches_text(alloc: Global, tally: &Tally) -> Result<String, AllocError>
     ensures { IfOk result (λ text. string_bytes text ≡ batches_text tally.now) }
 {
-    let Tally {
-        events,
-        unread,
-        batches,
-        ..
-    } = *tally;
-    format!(in alloc; " events={events} unread={unread} batches={batches}")
+    format!(in alloc;
+        " events={} unread={} batches={}",
+        tally.events, tally.unread, tally.batches
+    )
 }
 
 /// What a sink took and tried.
 fn attempts_text(alloc: Global, tally: &Tally) -> Result<String, AllocError>
     ensures { IfOk result (λ text. string_bytes text ≡ attempts_text tally.now) }
 {
-    let Tally {
-        taken,
-        newest,
-        attempts,
-        ..
-    } = *tally;
-    format!(in alloc; " taken={taken} newest={newest} attempts={attempts}")
+    format!(in alloc;
+        " taken={} newest={} attempts={}",
+        tally.taken, tally.newest, tally.attempts
+    )
 }
 
 /// What became of a source's batches or a sink's events.
 fn outcomes_text(alloc: Global, tally: &Tally) -> Result<String, AllocError>
     ensures { IfOk result (λ text. string_bytes text ≡ outcomes_text tally.now) }
 {
-    let Tally {
-        delivered,
-        errored,
-        rejected,
-        ..
-    } = *tally;
-    format!(in alloc; " delivered={delivered} errored={errored} rejected={rejected}")
+    format!(in alloc;
+        " delivered={} errored={} rejected={}",
+        tally.delivered, tally.errored, tally.rejected
+    )
 }

@@ -6,7 +6,6 @@ use Rattle.toml.specs.Data.{Data, as_str}
 use Rattle.vx_value.specs.Texts.{ByteString, same_text, is_empty}
 use Rattle.vx_graph.specs.Faults.{IsAccepted}
 use Rattle.vx_graph.specs.Order.{in_order}
-use Rattle.vx_plan.specs.Components.{is_source}
 use Rattle.vx_plan.specs.Graphs.{nodes_of}
 use Rattle.vx_plan.specs.Accepted.{names_differ, same_class, fits_class, has_stage, IsPlan}
 use Rattle.vx_plan.specs.declared.class.Class.{Class}
@@ -15,9 +14,9 @@ use Rattle.vx_plan.specs.declared.component.Component.{Component}
 use Rattle.vx_plan.specs.declared.global.Global.{Global as Options}
 use Rattle.vx_plan.specs.declared.plan.Plan.{Plan}
 use Rattle.vx_plan.specs.declared.stage.Stage.{Stage}
-use Rattle.vx_plan.proofs.Tests.{or_there, and_made, and_both, passing}
+use Rattle.vx_plan.proofs.Tests.{and_made, and_both, passing}
 use Rattle.vx_reading.specs.declared.kind.Kind.{Kind}
-use Rattle.vx_reading.specs.declared.kind.Kind.TheVariants.{Stdin, FileIn, DemoLogs, Filter, Route, Sample, Dedupe, Reduce, Host, Console, FileOut, Blackhole}
+use Rattle.vx_reading.specs.declared.kind.Kind.TheVariants.{Console, FileOut, Blackhole}
 use Rattle.vx_reading.specs.declared.plan_fault.PlanFault.{PlanFault}
 use Rattle.vx_reading.specs.Components.{Part, parts, kind_of, type_in}
 use Rattle.vx_reading.specs.Names.{AreApart, names_of, AreApartByClass}
@@ -40,112 +39,34 @@ pub apart_differ : (components : List Component) → AreApart (names_of componen
 apart_differ [] apart = refl
 apart_differ (c ∷ rest) apart = (λ i. not (none_named c.name rest apart.0 i) && apart_differ rest apart.1 i)
 
--- what is a transform may read others
-transform_reads : (class : Class) (inputs : List ByteString) → same_class Transform class ≡ true → (not (elim class [ Source ↦ true | Transform ↦ false | Sink ↦ false ]) || is_empty inputs) ≡ true
-transform_reads Source inputs e = cc
-transform_reads Transform inputs e = refl
-transform_reads Sink inputs e = refl
+-- classes that are the same by the test are one
+class_is : (a b : Class) → same_class a b ≡ true → a ≡ b
+class_is Source Source e = refl
+class_is Transform Transform e = refl
+class_is Sink Sink e = refl
+class_is a b e = cc
 
--- so may a sink
-sink_reads : (class : Class) (inputs : List ByteString) → same_class Sink class ≡ true → (not (elim class [ Source ↦ true | Transform ↦ false | Sink ↦ false ]) || is_empty inputs) ≡ true
-sink_reads Source inputs e = cc
-sink_reads Transform inputs e = refl
-sink_reads Sink inputs e = refl
+-- the component of a type, in the class of that type
+abbrev pub in_class : Options → Part → Kind → Component
+in_class whole part kind = record (component whole part kind) { class = kind_class kind }
 
--- a component of a type whose class is that of its part has options of its class
-kind_fits : (whole : Options) (part : Part) (kind : Kind) → same_class (kind_class kind) part.class ≡ true → fits_class (component whole part kind) ≡ true
-kind_fits whole part Stdin same = and_made (same_class Source part.class) (not (is_source (component whole part Stdin)) || true) same (or_there (not (is_source (component whole part Stdin))) true refl)
-kind_fits whole part FileIn same = and_made (same_class Source part.class) (not (is_source (component whole part FileIn)) || true) same (or_there (not (is_source (component whole part FileIn))) true refl)
-kind_fits whole part DemoLogs same = and_made (same_class Source part.class) (not (is_source (component whole part DemoLogs)) || true) same (or_there (not (is_source (component whole part DemoLogs))) true refl)
-kind_fits whole part Filter same = and_made (same_class Transform part.class) (not (is_source (component whole part Filter)) || is_empty (component whole part Filter).inputs) same (transform_reads part.class (component whole part Filter).inputs same)
-kind_fits whole part Route same = and_made (same_class Transform part.class) (not (is_source (component whole part Route)) || is_empty (component whole part Route).inputs) same (transform_reads part.class (component whole part Route).inputs same)
-kind_fits whole part Sample same = and_made (same_class Transform part.class) (not (is_source (component whole part Sample)) || is_empty (component whole part Sample).inputs) same (transform_reads part.class (component whole part Sample).inputs same)
-kind_fits whole part Dedupe same = and_made (same_class Transform part.class) (not (is_source (component whole part Dedupe)) || is_empty (component whole part Dedupe).inputs) same (transform_reads part.class (component whole part Dedupe).inputs same)
-kind_fits whole part Reduce same = and_made (same_class Transform part.class) (not (is_source (component whole part Reduce)) || is_empty (component whole part Reduce).inputs) same (transform_reads part.class (component whole part Reduce).inputs same)
-kind_fits whole part Host same = and_made (same_class Transform part.class) (not (is_source (component whole part Host)) || is_empty (component whole part Host).inputs) same (transform_reads part.class (component whole part Host).inputs same)
-kind_fits whole part Console same = and_made (same_class Sink part.class) (not (is_source (component whole part Console)) || is_empty (component whole part Console).inputs) same (sink_reads part.class (component whole part Console).inputs same)
-kind_fits whole part FileOut same = and_made (same_class Sink part.class) (not (is_source (component whole part FileOut)) || is_empty (component whole part FileOut).inputs) same (sink_reads part.class (component whole part FileOut).inputs same)
-kind_fits whole part Blackhole same = and_made (same_class Sink part.class) (not (is_source (component whole part Blackhole)) || is_empty (component whole part Blackhole).inputs) same (sink_reads part.class (component whole part Blackhole).inputs same)
+-- what it passes there, it passes where it is
+pub by_class : (test : Component → Bool) (whole : Options) (part : Part) (kind : Kind) → same_class (kind_class kind) part.class ≡ true →
+    test (in_class whole part kind) ≡ true → test (component whole part kind) ≡ true
+by_class test whole part kind same passes =
+    subst (λ (class : Class). test (record (component whole part kind) { class = class }) ≡ true) (class_is (kind_class kind) part.class same) passes
 
 -- a buffer has some stage
 some_stage : (stages : List Stage) → not (is_empty (or_default stages)) ≡ true
 some_stage [] = refl
 some_stage (stage ∷ rest) = refl
 
--- and a stage, if it is a sink
-kind_staged : (whole : Options) (part : Part) (kind : Kind) → same_class (kind_class kind) part.class ≡ true → has_stage (component whole part kind) ≡ true
-kind_staged whole part Stdin same = go part.class same
-  where
-    go : (class : Class) → same_class Source class ≡ true → has_stage (record (component whole part Stdin) { class = class }) ≡ true
-    go Source e = refl
-    go Transform e = refl
-    go Sink e = cc
-kind_staged whole part FileIn same = go part.class same
-  where
-    go : (class : Class) → same_class Source class ≡ true → has_stage (record (component whole part FileIn) { class = class }) ≡ true
-    go Source e = refl
-    go Transform e = refl
-    go Sink e = cc
-kind_staged whole part DemoLogs same = go part.class same
-  where
-    go : (class : Class) → same_class Source class ≡ true → has_stage (record (component whole part DemoLogs) { class = class }) ≡ true
-    go Source e = refl
-    go Transform e = refl
-    go Sink e = cc
-kind_staged whole part Filter same = go part.class same
-  where
-    go : (class : Class) → same_class Transform class ≡ true → has_stage (record (component whole part Filter) { class = class }) ≡ true
-    go Source e = refl
-    go Transform e = refl
-    go Sink e = cc
-kind_staged whole part Route same = go part.class same
-  where
-    go : (class : Class) → same_class Transform class ≡ true → has_stage (record (component whole part Route) { class = class }) ≡ true
-    go Source e = refl
-    go Transform e = refl
-    go Sink e = cc
-kind_staged whole part Sample same = go part.class same
-  where
-    go : (class : Class) → same_class Transform class ≡ true → has_stage (record (component whole part Sample) { class = class }) ≡ true
-    go Source e = refl
-    go Transform e = refl
-    go Sink e = cc
-kind_staged whole part Dedupe same = go part.class same
-  where
-    go : (class : Class) → same_class Transform class ≡ true → has_stage (record (component whole part Dedupe) { class = class }) ≡ true
-    go Source e = refl
-    go Transform e = refl
-    go Sink e = cc
-kind_staged whole part Reduce same = go part.class same
-  where
-    go : (class : Class) → same_class Transform class ≡ true → has_stage (record (component whole part Reduce) { class = class }) ≡ true
-    go Source e = refl
-    go Transform e = refl
-    go Sink e = cc
-kind_staged whole part Host same = go part.class same
-  where
-    go : (class : Class) → same_class Transform class ≡ true → has_stage (record (component whole part Host) { class = class }) ≡ true
-    go Source e = refl
-    go Transform e = refl
-    go Sink e = cc
-kind_staged whole part Console same = go part.class same
-  where
-    go : (class : Class) → same_class Sink class ≡ true → has_stage (record (component whole part Console) { class = class }) ≡ true
-    go Source e = refl
-    go Transform e = refl
-    go Sink e = some_stage (map stage_of (stages_of part.value))
-kind_staged whole part FileOut same = go part.class same
-  where
-    go : (class : Class) → same_class Sink class ≡ true → has_stage (record (component whole part FileOut) { class = class }) ≡ true
-    go Source e = refl
-    go Transform e = refl
-    go Sink e = some_stage (map stage_of (stages_of part.value))
-kind_staged whole part Blackhole same = go part.class same
-  where
-    go : (class : Class) → same_class Sink class ≡ true → has_stage (record (component whole part Blackhole) { class = class }) ≡ true
-    go Source e = refl
-    go Transform e = refl
-    go Sink e = some_stage (map stage_of (stages_of part.value))
+-- a component of a type has options of its class, and a stage if it is a sink
+kind_stands : (whole : Options) (part : Part) (kind : Kind) → (fits_class (in_class whole part kind) ≡ true) × (has_stage (in_class whole part kind) ≡ true)
+kind_stands whole part Console = (refl, some_stage (map stage_of (stages_of part.value)))
+kind_stands whole part FileOut = (refl, some_stage (map stage_of (stages_of part.value)))
+kind_stands whole part Blackhole = (refl, some_stage (map stage_of (stages_of part.value)))
+kind_stands whole part kind = (refl, refl)
 
 -- the type of a component is one of its class
 pub kind_class_of : (part : Part) (kind : Kind) → kind_of part ≡ Some kind → same_class (kind_class kind) part.class ≡ true
@@ -158,7 +79,7 @@ kind_class_of part kind is = go (option_and_then as_str (type_in part.value)) is
         (passing (λ (k : Kind). same_class (kind_class k) part.class && same_text (kind_name k) text) kinds kind e)).0
 
 -- what each component of a type passes, all pass
-each_passes : (test : Component → Bool) (whole : Options) → ((part : Part) (kind : Kind) → same_class (kind_class kind) part.class ≡ true → test (component whole part kind) ≡ true) →
+each_passes : (test : Component → Bool) (whole : Options) → ((part : Part) (kind : Kind) → test (in_class whole part kind) ≡ true) →
     (all : List Part) → list_all test (flat_map (component_of whole) all) ≡ true
 each_passes test whole passes [] = refl
 each_passes test whole passes (part ∷ rest) = go (kind_of part) refl (each_passes test whole passes rest)
@@ -166,7 +87,7 @@ each_passes test whole passes (part ∷ rest) = go (kind_of part) refl (each_pas
     go : (o : Option Kind) → kind_of part ≡ o → list_all test (flat_map (component_of whole) rest) ≡ true →
         list_all test ((elim o [ None ↦ [] | Some kind ↦ component whole part kind ∷ [] ]) ++ flat_map (component_of whole) rest) ≡ true
     go None is later = later
-    go (Some kind) is later = and_made (test (component whole part kind)) (list_all test (flat_map (component_of whole) rest)) (passes part kind (kind_class_of part kind is)) later
+    go (Some kind) is later = and_made (test (component whole part kind)) (list_all test (flat_map (component_of whole) rest)) (by_class test whole part kind (kind_class_of part kind is) (passes part kind)) later
 
 -- the plan that is answered of a document may be installed
 pub judged_accepted : (refuses : ByteString → Bool) (root : Data) (answer : Result Plan PlanFault) → AreApartByClass root → IsJudged refuses root answer → IfOk answer IsPlan
@@ -176,8 +97,8 @@ judged_accepted refuses root (Ok plan) apart judged =
     let differ : names_differ plan.components ≡ true = apart_differ plan.components (judged_apart refuses root (Ok plan) apart judged) in
     record {
       named = differ;
-      fitting = ap (λ (p : Plan). list_all fits_class p.components) of.same ∙ each_passes fits_class whole (kind_fits whole) (parts root);
-      staged = ap (λ (p : Plan). list_all has_stage p.components) of.same ∙ each_passes has_stage whole (kind_staged whole) (parts root);
+      fitting = ap (λ (p : Plan). list_all fits_class p.components) of.same ∙ each_passes fits_class whole (λ part kind. (kind_stands whole part kind).0) (parts root);
+      staged = ap (λ (p : Plan). list_all has_stage p.components) of.same ∙ each_passes has_stage whole (λ part kind. (kind_stands whole part kind).1) (parts root);
       accepted = subst (λ (p : Plan). IsAccepted (in_order (nodes_of p))) (sym of.same) of.accepted;
     }
 judged_accepted refuses root (Err fault) apart judged = tt

@@ -1,13 +1,13 @@
 -- The components of an accepted configuration have different names.
 use Rattle.std.proofs.Common.{◌≡◌, Bool, true, false, List, [], ◌∷◌, ◌++◌, map, Option, Some, None, Result, Ok, Err, IfOk, String, Global, Ordering, Less, Equal, Greater, string_bytes, nat_cmp, refl, sym, ◌∙◌, ap, subst}
-use Rattle.std.specs.Prelude.{not, ◌&&◌, ◌||◌, is_some, option_and_then, if◌then◌else◌}
+use Rattle.std.specs.Prelude.{not, ◌&&◌, ◌||◌, is_some, option_and_then}
 use Rattle.std.specs.List.{AllByRecursion, flat_map}
 use Rattle.std.specs.List.Sorted.{IsStrictlySortedBy}
 use Rattle.std.specs.Cmp.Lexicographic.{slice_cmp}
 use Rattle.std.specs.Map.{keys_of}
 use Rattle.std.specs.Ordering.{match_ordering}
 use Rattle.std.specs.String.{string_cmp}
-use Rattle.toml.specs.Data.{Data, string, integer, float, boolean, datetime, array, table, Members, no_members, member, get, get_member}
+use Rattle.toml.specs.Data.{Data, table, Members, no_members, member, get, get_member}
 use Rattle.toml.specs.View.{members_view}
 use Rattle.toml.proofs.Views.{Entry}
 use Rattle.vx_value.specs.Texts.{ByteString, same_text}
@@ -16,18 +16,18 @@ use Rattle.vx_plan.specs.declared.class.Class.{Class}
 use Rattle.vx_plan.specs.declared.class.Class.TheVariants.{Source, Transform, Sink}
 use Rattle.vx_plan.specs.declared.global.Global.{Global as Options}
 use Rattle.vx_plan.specs.declared.plan.Plan.{Plan}
-use Rattle.vx_reading.specs.declared.diagnostic.Diagnostic.{Diagnostic}
+use Rattle.vx_plan.proofs.Tests.{and_both}
 use Rattle.vx_reading.specs.declared.kind.Kind.{Kind}
 use Rattle.vx_reading.specs.declared.plan_fault.PlanFault.{PlanFault}
-use Rattle.vx_reading.specs.Components.{Part, part_in, parts_in, parts, section, kind_of, has_part, is_taken, is_name, first_stdin}
-use Rattle.vx_reading.specs.Diagnostics.{diagnostics, global_diagnostics, count_diagnostics, capacity_diagnostics, all_section_diagnostics, part_diagnostic, part_diagnostics}
+use Rattle.vx_reading.specs.Components.{Part, part_in, parts_in, parts, section, kind_of, has_part, part_path, is_taken, is_name, first_stdin}
+use Rattle.vx_reading.specs.Diagnostics.{owner_of, diagnostics, part_diagnostic, part_diagnostics}
 use Rattle.vx_reading.specs.Judging.{Pair, pairs_of, pairs_in, is_table}
 use Rattle.vx_reading.specs.Names.{AreApart, names_of, part_names, pair_names, AreApartByClass}
 use Rattle.vx_reading.specs.Plans.{component, component_of, global_of}
 use Rattle.vx_reading.specs.declared.reading.ReadPlan.{ReadPlan}
 use Rattle.vx_reading.specs.Answers.{plan_in}
 use Rattle.vx_reading.specs.Reading.{IsPlanOf, IsJudged}
-use Rattle.vx_reading.proofs.Few.{none_left, none_right}
+use Rattle.vx_reading.proofs.Few.{none_left, none_right, right_of, untrue, parts_faultless}
 
 pub all_mapped : {X : Type 0} (P Q : X → Type 0) (xs : List X) → ((x : X) → P x → Q x) → AllByRecursion P xs → AllByRecursion Q xs
 all_mapped P Q [] f all = tt
@@ -94,12 +94,7 @@ none_of_members name (member key value rest) none = go (slice_cmp nat_cmp name k
 
 none_of_value : (name : ByteString) (class : Class) (value : Data) → is_some (get name value) ≡ false → IsNoneOf name (part_names (map (part_in class) (pairs_in value)))
 none_of_value name class (table members) none = subst (IsNoneOf name) (sym (same_names class (pairs_of members))) (none_of_members name members none)
-none_of_value name class (string s) none = tt
-none_of_value name class (integer z) none = tt
-none_of_value name class (float x) none = tt
-none_of_value name class (boolean b) none = tt
-none_of_value name class (datetime dt) none = tt
-none_of_value name class (array ds) none = tt
+none_of_value name class value none = tt
 
 none_of_class : (root : Data) (class : Class) (name : ByteString) → has_part root class name ≡ false → IsNoneOf name (part_names (parts_in root class))
 none_of_class root class name none = go (section root class) none
@@ -109,14 +104,11 @@ none_of_class root class name none = go (section root class) none
     go (Some value) none = none_of_value name class value none
 
 -- a component without a fault has a name that no earlier table has
-free_of : (taken : Bool) (a b : Bool) (diagnostic : Diagnostic) → (if a && (b && not taken) then [] else diagnostic ∷ []) ≡ [] → taken ≡ false
-free_of false a b diagnostic none = refl
-free_of true true true diagnostic none = cc
-free_of true true false diagnostic none = cc
-free_of true false b diagnostic none = cc
-
 free : (root : Data) (part : Part) → part_diagnostic root part ≡ [] → is_taken root part.class part.name ≡ false
-free root part none = free_of (is_taken root part.class part.name) (is_table part.value) (is_name part.name) _ none
+free root part none =
+    let named = is_name part.name && not (is_taken root part.class part.name) in
+    let fits = right_of (owner_of part) (part_path part) (is_table part.value && named) none in
+    untrue (is_taken root part.class part.name) (and_both (is_name part.name) (not (is_taken root part.class part.name)) (and_both (is_table part.value) named fits).1).1
 
 all_free : (root : Data) (first : Option ByteString) (all : List Part) → flat_map (part_diagnostics root first) all ≡ [] → AllByRecursion (λ (part : Part). is_taken root part.class part.name ≡ false) all
 all_free root first [] none = tt
@@ -147,8 +139,7 @@ neither false b is = (refl, is)
 -- so the components of a document without faults have different names
 parts_apart : (root : Data) → AreApartByClass root → diagnostics root ≡ [] → AreApart (part_names (parts root))
 parts_apart root apart none =
-    let of_parts = none_right (all_section_diagnostics root) _ (none_right (capacity_diagnostics root) _ (none_right (count_diagnostics root) _ (none_right (global_diagnostics root) _ none))) in
-    let all = all_free root (first_stdin root) (parts root) of_parts in
+    let all = all_free root (first_stdin root) (parts root) (parts_faultless root none) in
     let s = parts_in root Source in
     let t = parts_in root Transform in
     let k = parts_in root Sink in

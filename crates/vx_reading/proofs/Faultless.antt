@@ -2,24 +2,19 @@
 use Rattle.std.proofs.Common.{◌≡◌, Bool, true, false, List, [], ◌∷◌, Option, Some, None, refl, subst}
 use Rattle.std.specs.Prelude.{codes, if◌then◌else◌, option_and_then}
 use Rattle.std.specs.List.{AllByRecursion, flat_map}
-use Rattle.toml.specs.Data.{Data, string, integer, float, boolean, datetime, array, table, as_str, get}
+use Rattle.toml.specs.Data.{Data, table, as_str, get}
 use Rattle.vx_value.specs.Texts.{ByteString}
 use Rattle.vx_reading.specs.declared.kind.Kind.{Kind}
 use Rattle.vx_reading.specs.Components.{Part, parts, kind_of, type_in, first_stdin}
-use Rattle.vx_reading.specs.Diagnostics.{diagnostics, global_diagnostics, count_diagnostics, capacity_diagnostics, all_section_diagnostics, part_diagnostic, part_diagnostics, type_diagnostics, text_diagnostics, named_diagnostics, kind_diagnostics}
+use Rattle.vx_reading.specs.Diagnostics.{diagnostics, part_diagnostic, part_diagnostics, type_diagnostics, text_diagnostics, named_diagnostics, kind_diagnostics}
 use Rattle.vx_reading.specs.Judging.{is_table}
 use Rattle.vx_reading.specs.Options.{kind_named}
-use Rattle.vx_reading.proofs.Few.{none_left, none_right}
+use Rattle.vx_reading.proofs.Few.{none_left, none_right, parts_faultless}
 
 -- a value without a table has nothing under a name
 typed_table : (value observed : Data) → get (codes "type") value ≡ Some observed → is_table value ≡ true
 typed_table (table ms) observed is = refl
-typed_table (string s) observed is = cc
-typed_table (integer z) observed is = cc
-typed_table (float x) observed is = cc
-typed_table (boolean b) observed is = cc
-typed_table (datetime d) observed is = cc
-typed_table (array ds) observed is = cc
+typed_table value observed is = cc
 
 -- what follows where nothing is wrong with a component of a type, by what it has
 module _ (kind : Kind) (P : Part → Type 0) (holds : (first : Option ByteString) (part : Part) → kind_diagnostics first part kind ≡ [] → P part) where
@@ -54,5 +49,4 @@ module _ (kind : Kind) (P : Part → Type 0) (holds : (first : Option ByteString
   -- it holds of each component of that type
   pub each_faultless : (root : Data) → diagnostics root ≡ [] → AllByRecursion (λ (part : Part). kind_of part ≡ Some kind → P part) (parts root)
   each_faultless root none =
-      of_all root (first_stdin root) (parts root)
-      (none_right (all_section_diagnostics root) _ (none_right (capacity_diagnostics root) _ (none_right (count_diagnostics root) _ (none_right (global_diagnostics root) _ none))))
+      of_all root (first_stdin root) (parts root) (parts_faultless root none)

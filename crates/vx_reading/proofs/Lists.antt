@@ -1,16 +1,22 @@
 -- How long lists are.
-use Rattle.std.proofs.Common.{◌≡◌, ◌<◌, ◌+◌, ◌-◌, ℕ, suc, false, nat_eq, List, [], ◌∷◌, length, drop, refl, ap, ◌∙◌, arith}
+use Rattle.std.proofs.Common.{◌≡◌, ◌<◌, ◌≤◌, ◌+◌, ◌-◌, ℕ, suc, false, nat_eq, List, [], ◌∷◌, length, drop, refl, ap, ◌∙◌, arith}
 use Rattle.std.proofs.lemmas.Bool.Decides.{nat_tests}
 use Rattle.std.proofs.lemmas.List.{length-drop}
 use Rattle.toml.specs.View.{items_view}
 use Rattle.toml.specs.declared.value.Value.{Value}
 use Rattle.vx_value.specs.Texts.{is_empty}
-use Rattle.vx_reading.specs.Judging.{items_in}
+use Rattle.vx_reading.specs.Judging.{items_in, is_single}
 
 -- the items of an array number its values
 pub items_in_length : (vs : List Value) → length (items_in (items_view vs)) ≡ length vs
 items_in_length [] = refl
 items_in_length (v ∷ vs) = ap suc (items_in_length vs)
+
+-- two or more are not one
+pub not_single : (vs : List Value) → 2 ≤ length vs → is_single (items_in (items_view vs)) ≡ false
+not_single [] two = absurd (omega (arith, two))
+not_single (v ∷ []) two = absurd (omega (arith, two))
+not_single (v ∷ w ∷ vs) two = refl
 
 some_more : (n : ℕ) → false ≡ nat_eq (suc n) 0
 some_more n = grind (arith, nat_tests)

@@ -4,9 +4,9 @@ use Rattle.std.specs.Prelude.{◌&&◌, if◌then◌else◌, codes, option_and_t
 use Rattle.std.proofs.lemmas.Bool.Decides.{nat_tests}
 use Rattle.toml.specs.Data.{Data, as_integer, get}
 use Rattle.vx_plan.proofs.Tests.{and_both, and_made}
-use Rattle.vx_reading.specs.Judging.{between, whole_in}
+use Rattle.vx_reading.specs.Judging.{between}
 use Rattle.vx_reading.specs.Options.{most_whole, most_keys, most_period}
-use Rattle.vx_reading.specs.Plans.{rate_of, keys_of, expire_of, flush_of}
+use Rattle.vx_reading.specs.Plans.{value_within, whole_or, rate_of, keys_of, expire_of, flush_of}
 
 -- a number is between two
 record IsBetween (least most n : ℕ) : Type 0 where
@@ -28,7 +28,7 @@ kept least most other (Some (pos n)) is = by_test (nat_le least n && nat_le n mo
         record { some = least_observed least n both.0; few = least_observed n most both.1 }
     by_test false so = is
 
-read_between : (least most other : ℕ) (o : Option Data) → IsBetween least most other → IsBetween least most (unwrap_or (option_and_then (whole_in least most) o) other)
+read_between : (least most other : ℕ) (o : Option Data) → IsBetween least most other → IsBetween least most (whole_or least most other o)
 read_between least most other None is = is
 read_between least most other (Some value) is = kept least most other (as_integer value) is
 
@@ -40,21 +40,7 @@ pub rate_some : (value : Data) → 1 ≤ rate_of value
 rate_some value = (rate_between value).some
 
 keys_between : (value : Data) → IsBetween 1 most_keys (keys_of value)
-keys_between value = go (get (codes "cache") value)
-  where
-    default : IsBetween 1 most_keys 5000
-    default = record { some = omega arith; few = omega arith }
-
-    go : (o : Option Data) → IsBetween 1 most_keys (unwrap_or (option_and_then (λ (inner : Data). option_and_then (whole_in 1 most_keys) (get (codes "num_events") inner)) o) 5000)
-    go None = default
-    go (Some inner) = read_between 1 most_keys 5000 (get (codes "num_events") inner) default
-
--- a dedupe keeps some keys, and no more than it may
-pub keys_some : (value : Data) → 1 ≤ keys_of value
-keys_some value = (keys_between value).some
-
-pub keys_few : (value : Data) → keys_of value ≤ most_keys
-keys_few value = (keys_between value).few
+keys_between value = read_between 1 most_keys 5000 (value_within (codes "cache") (codes "num_events") value) (record { some = omega arith; few = omega arith })
 
 -- so the tests of both ends pass
 observed_least : (least n : ℕ) → least ≤ n → nat_le least n ≡ true
@@ -68,6 +54,10 @@ expire_between value = read_between 1 most_period 30000 (get (codes "expire_afte
 
 flush_between : (value : Data) → IsBetween 1 most_period (flush_of value)
 flush_between value = read_between 1 most_period 1000 (get (codes "flush_period_ms") value) (record { some = omega arith; few = omega arith })
+
+-- a dedupe keeps some keys, and no more than it may
+pub keys_observed : (value : Data) → (nat_le 1 (keys_of value) && nat_le (keys_of value) most_keys) ≡ true
+keys_observed value = observed_between 1 most_keys (keys_of value) (keys_between value)
 
 -- the two periods of a reduce are a millisecond at least, and no longer than may be said
 pub expire_observed : (value : Data) → (nat_le 1 (expire_of value) && nat_le (expire_of value) most_period) ≡ true

@@ -14,7 +14,7 @@ use Rattle.vx_graph.specs.Order.{in_order}
 use Rattle.vx_plan.specs.declared.plan.Plan.{Plan}
 use Rattle.vx_reading.specs.declared.diagnostic.Diagnostic.{Diagnostic}
 use Rattle.vx_reading.specs.declared.plan_fault.PlanFault.{PlanFault}
-use Rattle.vx_reading.specs.declared.plan_fault.PlanFault.TheVariants.{MissingVariable, NotToml, UnknownKind, UnknownOption, MissingOption, BadValue, TooMany, Graph, WantOfMemory}
+use Rattle.vx_reading.specs.declared.plan_fault.PlanFault.TheVariants.{MissingVariable, NotToml, Graph, WantOfMemory}
 use Rattle.vx_reading.specs.Conditions.{all_diagnostics}
 use Rattle.vx_reading.specs.Diagnostics.{rank, precedes, IsFirst, HasFault, AreAlike}
 use Rattle.vx_reading.specs.Plans.{plan_of, nodes_of}
@@ -30,16 +30,13 @@ no_fault all fault none h =
     let lt : h.first.among.0 < 0 = subst (λ (xs : List Diagnostic). h.first.among.0 < length xs) none h.first.among.1 in
     omega arith
 
+true-false : true ≡ false → ⊥
+true-false e = cc
+
 -- a graph that may stand has no fault
 no_graph_fault : (nodes : List Node) (fault : GraphFault) → IsAccepted nodes → IsFault nodes fault → (fault ≡ graph.WantOfMemory → ⊥) → ⊥
 no_graph_fault nodes graph.NoSources stands h memory = absurd (true-false (sym stands.sources ∙ h))
-  where
-    true-false : true ≡ false → ⊥
-    true-false e = cc
 no_graph_fault nodes graph.NoSinks stands h memory = absurd (true-false (sym stands.sinks ∙ h.1))
-  where
-    true-false : true ≡ false → ⊥
-    true-false e = cc
 no_graph_fault nodes (graph.NoInputs name) stands h memory = let e = sym stands.inputs ∙ h.1 in cc
 no_graph_fault nodes (graph.UnknownInput name input) stands h memory = let e = sym stands.known ∙ h.2 in cc
 no_graph_fault nodes (graph.Cycle texts) stands h memory = stands.acyclic texts h.3
@@ -49,13 +46,9 @@ no_graph_fault nodes graph.WantOfMemory stands h memory = memory refl
 judged_apart : (refuses : ByteString → Bool) (root : Data) (plan : Plan) (fault : PlanFault) → IsPlanOf refuses root plan → IsJudged refuses root (Err fault) → fault ≡ WantOfMemory
 judged_apart refuses root plan (MissingVariable name at) p f = absurd f
 judged_apart refuses root plan NotToml p f = absurd f
-judged_apart refuses root plan (UnknownKind path) p f = absurd (no_fault (all_diagnostics refuses root) (UnknownKind path) p.faultless f)
-judged_apart refuses root plan (UnknownOption path) p f = absurd (no_fault (all_diagnostics refuses root) (UnknownOption path) p.faultless f)
-judged_apart refuses root plan (MissingOption path) p f = absurd (no_fault (all_diagnostics refuses root) (MissingOption path) p.faultless f)
-judged_apart refuses root plan (BadValue path) p f = absurd (no_fault (all_diagnostics refuses root) (BadValue path) p.faultless f)
-judged_apart refuses root plan (TooMany path count most) p f = absurd (no_fault (all_diagnostics refuses root) (TooMany path count most) p.faultless f)
 judged_apart refuses root plan (Graph fault) p f = absurd (no_graph_fault (in_order (nodes_of (plan_of root))) fault p.accepted f.refused f.memory)
 judged_apart refuses root plan WantOfMemory p f = refl
+judged_apart refuses root plan fault p f = absurd (no_fault (all_diagnostics refuses root) fault p.faultless f)
 
 -- the same of the document of a text
 document_apart : (refuses : ByteString → Bool) (environment : List Variable) (text : ByteString) (plan : Plan) (fault : PlanFault) → IsDocumentJudged refuses environment text (Ok plan)
@@ -69,13 +62,8 @@ text_apart : (refuses : ByteString → Bool) (environment : List Variable) (text
     → IsTextRead refuses environment text (Err fault) → fault ≡ WantOfMemory
 text_apart refuses environment text plan (MissingVariable name at) p f = let e = sym p.document.whole ∙ f.lacking in cc
 text_apart refuses environment text plan NotToml p f = let e = sym p.document.parsed ∙ f.parsed in cc
-text_apart refuses environment text plan (UnknownKind path) p f = document_apart refuses environment text plan (UnknownKind path) p f
-text_apart refuses environment text plan (UnknownOption path) p f = document_apart refuses environment text plan (UnknownOption path) p f
-text_apart refuses environment text plan (MissingOption path) p f = document_apart refuses environment text plan (MissingOption path) p f
-text_apart refuses environment text plan (BadValue path) p f = document_apart refuses environment text plan (BadValue path) p f
-text_apart refuses environment text plan (TooMany path count most) p f = document_apart refuses environment text plan (TooMany path count most) p f
-text_apart refuses environment text plan (Graph fault) p f = document_apart refuses environment text plan (Graph fault) p f
 text_apart refuses environment text plan WantOfMemory p f = refl
+text_apart refuses environment text plan fault p f = document_apart refuses environment text plan fault p f
 
 -- what has a plan is refused for want of memory alone
 pub never_both : (refuses : ByteString → Bool) (environment : List Variable) (bytes : ByteString) (plan : Plan) (fault : PlanFault) → IsReadingBy refuses environment bytes (Ok plan)

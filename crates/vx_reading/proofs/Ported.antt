@@ -6,24 +6,21 @@ use Rattle.std.specs.List.{AllByRecursion, list_all, flat_map}
 use Rattle.std.proofs.lemmas.Bool.Decides.{nat_tests}
 use Rattle.vx_value.specs.declared.variable.Variable.{Variable}
 use Rattle.vx_value.specs.Texts.{ByteString}
-use Rattle.vx_plan.specs.Accepted.{same_class}
-use Rattle.vx_plan.specs.declared.class.Class.{Class}
-use Rattle.vx_plan.specs.declared.class.Class.TheVariants.{Source, Transform, Sink}
 use Rattle.vx_plan.specs.declared.global.Global.{Global}
 use Rattle.vx_plan.specs.declared.plan.Plan.{Plan}
 use Rattle.vx_plan.proofs.Tests.{and_made}
 use Rattle.vx_reading.specs.declared.kind.Kind.{Kind}
-use Rattle.vx_reading.specs.declared.kind.Kind.TheVariants.{Stdin, FileIn, DemoLogs, Filter, Route, Sample, Dedupe, Reduce, Host, Console, FileOut, Blackhole}
+use Rattle.vx_reading.specs.declared.kind.Kind.TheVariants.{DemoLogs, Route, Sample, Dedupe, Reduce}
 use Rattle.vx_reading.specs.Components.{Part, parts, kind_of}
 use Rattle.vx_reading.specs.Diagnostics.{diagnostics}
 use Rattle.vx_reading.specs.Made.{is_made}
-use Rattle.vx_reading.specs.Options.{kind_class, most_period}
-use Rattle.vx_reading.specs.Plans.{component, component_of, global_of, ways_of, rate_of, keys_of, expire_of, flush_of}
+use Rattle.vx_reading.specs.Options.{most_period}
+use Rattle.vx_reading.specs.Plans.{component, component_of, global_of, ways_of, rate_of, expire_of, flush_of}
 use Rattle.vx_reading.specs.Reading.{IsReading, IsPlanOf}
-use Rattle.vx_reading.proofs.Accepted.{kind_class_of}
+use Rattle.vx_reading.proofs.Accepted.{by_class, in_class, kind_class_of}
 use Rattle.vx_reading.proofs.Few.{none_left}
 use Rattle.vx_reading.proofs.Generating.{has_lines, lines_there}
-use Rattle.vx_reading.proofs.Numbers.{rate_some, keys_some, keys_few, expire_observed, flush_observed}
+use Rattle.vx_reading.proofs.Numbers.{rate_some, keys_observed, expire_observed, flush_observed}
 use Rattle.vx_reading.proofs.Routes.{few_ways}
 
 few_observed : (n : _) → n ≤ 64 → nat_le n 64 ≡ true
@@ -32,89 +29,24 @@ few_observed n few = grind (arith, nat_tests)
 some_observed : (n : _) → 1 ≤ n → nat_le 1 n ≡ true
 some_observed n some = grind (arith, nat_tests)
 
-most_observed : (n : _) → n ≤ 1000000 → nat_le n 1000000 ≡ true
-most_observed n few = grind (arith, nat_tests)
-
-kind_made : (whole : Global) (part : Part) (kind : Kind) → same_class (kind_class kind) part.class ≡ true → (kind ≡ Route → length (ways_of part.value) ≤ 64) → (kind ≡ DemoLogs → has_lines part ≡ true) →
-    is_made (component whole part kind) ≡ true
-kind_made whole part Stdin same few lines = go part.class same
-  where
-    go : (class : Class) → same_class Source class ≡ true → is_made (record (component whole part Stdin) { class = class }) ≡ true
-    go Source e = refl
-    go Transform e = cc
-    go Sink e = cc
-kind_made whole part FileIn same few lines = go part.class same
-  where
-    go : (class : Class) → same_class Source class ≡ true → is_made (record (component whole part FileIn) { class = class }) ≡ true
-    go Source e = refl
-    go Transform e = cc
-    go Sink e = cc
-kind_made whole part DemoLogs same few lines = go part.class same
-  where
-    go : (class : Class) → same_class Source class ≡ true → is_made (record (component whole part DemoLogs) { class = class }) ≡ true
-    go Source e = ap (λ (b : Bool). b || false) (lines refl)
-    go Transform e = cc
-    go Sink e = cc
-kind_made whole part Filter same few lines = go part.class same
-  where
-    go : (class : Class) → same_class Transform class ≡ true → is_made (record (component whole part Filter) { class = class }) ≡ true
-    go Source e = cc
-    go Transform e = refl
-    go Sink e = cc
-kind_made whole part Route same few lines = go part.class same
-  where
-    go : (class : Class) → same_class Transform class ≡ true → is_made (record (component whole part Route) { class = class }) ≡ true
-    go Source e = cc
-    go Transform e = ap (λ (b : Bool). b || false || false || false || false) (few_observed (length (ways_of part.value)) (few refl))
-    go Sink e = cc
-kind_made whole part Sample same few lines = go part.class same
-  where
-    go : (class : Class) → same_class Transform class ≡ true → is_made (record (component whole part Sample) { class = class }) ≡ true
-    go Source e = cc
-    go Transform e = ap (λ (b : Bool). b || false || false || false || false) (some_observed (rate_of part.value) (rate_some part.value))
-    go Sink e = cc
-kind_made whole part Dedupe same few lines = go part.class same
-  where
-    go : (class : Class) → same_class Transform class ≡ true → is_made (record (component whole part Dedupe) { class = class }) ≡ true
-    go Source e = cc
-    go Transform e = ap (λ (b : Bool). b || false || false || false || false) (and_made (nat_le 1 (keys_of part.value)) (nat_le (keys_of part.value) 1000000) (some_observed (keys_of part.value) (keys_some part.value)) (most_observed (keys_of part.value) (keys_few part.value)))
-    go Sink e = cc
-kind_made whole part Reduce same few lines = go part.class same
+-- a component of a type is one of those
+kind_made : (whole : Global) (part : Part) (kind : Kind) → (kind ≡ Route → length (ways_of part.value) ≤ 64) → (kind ≡ DemoLogs → has_lines part ≡ true) →
+    is_made (in_class whole part kind) ≡ true
+kind_made whole part DemoLogs few lines = ap (λ (b : Bool). b || false) (lines refl)
+kind_made whole part Route few lines =
+    ap (λ (b : Bool). b || false || false || false || false) (few_observed (length (ways_of part.value)) (few refl))
+kind_made whole part Sample few lines =
+    ap (λ (b : Bool). b || false || false || false || false) (some_observed (rate_of part.value) (rate_some part.value))
+kind_made whole part Dedupe few lines =
+    ap (λ (b : Bool). b || false || false || false || false) (keys_observed part.value)
+kind_made whole part Reduce few lines = ap (λ (b : Bool). b || false || false || false) (and_made expire flush (expire_observed part.value) (flush_observed part.value))
   where
     expire : Bool
     expire = nat_le 1 (expire_of part.value) && nat_le (expire_of part.value) most_period
 
     flush : Bool
     flush = nat_le 1 (flush_of part.value) && nat_le (flush_of part.value) most_period
-
-    go : (class : Class) → same_class Transform class ≡ true → is_made (record (component whole part Reduce) { class = class }) ≡ true
-    go Source e = cc
-    go Transform e = ap (λ (b : Bool). b || false || false || false) (and_made expire flush (expire_observed part.value) (flush_observed part.value))
-    go Sink e = cc
-kind_made whole part Host same few lines = go part.class same
-  where
-    go : (class : Class) → same_class Transform class ≡ true → is_made (record (component whole part Host) { class = class }) ≡ true
-    go Source e = cc
-    go Transform e = refl
-    go Sink e = cc
-kind_made whole part Console same few lines = go part.class same
-  where
-    go : (class : Class) → same_class Sink class ≡ true → is_made (record (component whole part Console) { class = class }) ≡ true
-    go Source e = cc
-    go Transform e = cc
-    go Sink e = refl
-kind_made whole part FileOut same few lines = go part.class same
-  where
-    go : (class : Class) → same_class Sink class ≡ true → is_made (record (component whole part FileOut) { class = class }) ≡ true
-    go Source e = cc
-    go Transform e = cc
-    go Sink e = refl
-kind_made whole part Blackhole same few lines = go part.class same
-  where
-    go : (class : Class) → same_class Sink class ≡ true → is_made (record (component whole part Blackhole) { class = class }) ≡ true
-    go Source e = cc
-    go Transform e = cc
-    go Sink e = refl
+kind_made whole part kind few lines = refl
 
 parts_made : (whole : Global) (all : List Part) → AllByRecursion (λ (part : Part). kind_of part ≡ Some Route → length (ways_of part.value) ≤ 64) all → AllByRecursion (λ (part : Part). kind_of part ≡ Some DemoLogs → has_lines part ≡ true) all →
     list_all is_made (flat_map (component_of whole) all) ≡ true
@@ -126,7 +58,7 @@ parts_made whole (part ∷ rest) few lines = go (kind_of part) refl (parts_made 
     go None is later = later
     go (Some kind) is later =
         and_made (is_made (component whole part kind)) (list_all is_made (flat_map (component_of whole) rest))
-        (kind_made whole part kind (kind_class_of part kind is) (λ route. few.0 (is ∙ ap Some route)) (λ demo. lines.0 (is ∙ ap Some demo))) later
+        (by_class is_made whole part kind (kind_class_of part kind is) (kind_made whole part kind (λ route. few.0 (is ∙ ap Some route)) (λ demo. lines.0 (is ∙ ap Some demo)))) later
 
 pub made_read : (environment : List Variable) (bytes : ByteString) (plan : Plan) → IsReading environment bytes (Ok plan) → list_all is_made plan.components ≡ true
 made_read environment bytes plan (refuses, inl read) =

@@ -1,6 +1,6 @@
 -- Where no fault is found, no condition is refused.
 use Rattle.std.proofs.Common.{◌≡◌, Bool, true, false, List, [], ◌∷◌, ◌++◌, map, Option, Some, None, refl, ◌∙◌, ap, subst}
-use Rattle.std.specs.Prelude.{codes, if◌then◌else◌}
+use Rattle.std.specs.Prelude.{codes, not}
 use Rattle.std.specs.List.{AllByRecursion, flat_map}
 use Rattle.vx_value.specs.Texts.{ByteString}
 use Rattle.vx_plan.specs.declared.component.Component.{Component}
@@ -8,10 +8,10 @@ use Rattle.vx_plan.specs.declared.route.Route.{Route as Way}
 use Rattle.vx_plan.specs.declared.settings.Settings.{Settings}
 use Rattle.vx_plan.specs.declared.settings.Settings.TheVariants as settings
 use Rattle.vx_plan.specs.Options.{conditions_of, if_any}
-use Rattle.vx_reading.specs.declared.diagnostic.Diagnostic.{Diagnostic}
-use Rattle.vx_reading.specs.Conditions.{Placed, placed_way, placed_any, placed_in, conditions_by, all_conditions, is_one, IsRefusable, RefusesRightly, refusal, refusals_of, refusals}
+use Rattle.vx_reading.specs.Conditions.{Placed, placed_way, placed_any, placed_in, conditions_by, all_conditions, owner_by, lead_of, is_one, IsRefusable, RefusesRightly, refusal, refusals_of, refusals}
+use Rattle.vx_reading.specs.Options.{place_path}
 use Rattle.vx_reading.specs.Trying.{IsRefusedOf, Tries}
-use Rattle.vx_reading.proofs.Few.{none_left, none_right}
+use Rattle.vx_reading.proofs.Few.{none_left, none_right, right_of, untrue}
 use Rattle.vx_reading.proofs.Apart.{all_mapped, all_joined}
 use Rattle.vx_reading.proofs.Trying.{one_of, one_here, one_left}
 
@@ -40,25 +40,14 @@ placed_texts (settings.Reduce group_by starts_when ends_when expire flush strate
     texts_joined (placed_any (codes "ends_when") ends_when) (placed_any (codes "starts_when") starts_when)
     ∙ ap (λ (xs : List ByteString). xs ++ texts_of (placed_any (codes "starts_when") starts_when)) (any_texts (codes "ends_when") ends_when)
     ∙ ap (λ (ys : List ByteString). if_any ends_when ++ ys) (any_texts (codes "starts_when") starts_when)
-placed_texts (settings.Stdin max_length codec) = refl
-placed_texts (settings.FileIn most path from codec) = refl
-placed_texts (settings.DemoLogs demo interval) = refl
-placed_texts (settings.Dedupe fields most) = refl
-placed_texts settings.Host = refl
-placed_texts (settings.Console target codec sink) = refl
-placed_texts (settings.FileOut path compression codec sink) = refl
-placed_texts (settings.Blackhole seconds sink) = refl
+placed_texts other = refl
 
 -- WHERE THERE IS NO FAULT
-unfound : (b : Bool) (diagnostic : Diagnostic) → (if b then diagnostic ∷ [] else []) ≡ [] → b ≡ false
-unfound true diagnostic none = cc
-unfound false diagnostic none = refl
-
 module _ (refuses : ByteString → Bool) where
   placed_taken : (c : Component) (placed : List Placed) → flat_map (refusal refuses c) placed ≡ [] → AllByRecursion (λ (text : ByteString). refuses text ≡ false) (texts_of placed)
   placed_taken c [] none = tt
   placed_taken c (p ∷ rest) none = (
-    unfound (refuses p.text) _ (none_left (refusal refuses c p) (flat_map (refusal refuses c) rest) none),
+    untrue (refuses p.text) (right_of (owner_by c) (lead_of c ++ place_path p.place) (not (refuses p.text)) (none_left (refusal refuses c p) (flat_map (refusal refuses c) rest) none)),
     placed_taken c rest (none_right (refusal refuses c p) (flat_map (refusal refuses c) rest) none),
   )
 

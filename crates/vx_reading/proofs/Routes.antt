@@ -1,25 +1,23 @@
 -- A route without faults has few ways.
-use Rattle.std.proofs.Common.{◌≡◌, ℕ, suc, ◌+◌, ◌≤◌, Bool, true, false, nat_lt, List, [], ◌∷◌, ◌++◌, map, length, Option, Some, None, Ordering, Less, Equal, Greater, nat_cmp, refl, sym, ◌∙◌, subst, arith}
+use Rattle.std.proofs.Common.{◌≡◌, ℕ, suc, ◌+◌, ◌≤◌, Bool, true, false, List, [], ◌∷◌, ◌++◌, map, length, Option, Some, None, Ordering, Less, Equal, Greater, nat_cmp, refl, sym, ◌∙◌, subst, arith}
 use Rattle.std.specs.Prelude.{cond, codes, if◌then◌else◌}
 use Rattle.std.specs.Cmp.Lexicographic.{slice_cmp}
 use Rattle.std.specs.List.{AllByRecursion}
 use Rattle.std.specs.Ordering.{match_ordering}
-use Rattle.std.proofs.lemmas.Bool.Decides.{nat_tests}
 use Rattle.std.proofs.lemmas.List.{length-map}
 use Rattle.std.proofs.lemmas.List.Sums.{sum_by-append, sum_by-cons}
-use Rattle.toml.specs.Data.{Data, string, integer, float, boolean, datetime, array, table, Members, no_members, member, as_table, get_member}
+use Rattle.toml.specs.Data.{Data, table, Members, no_members, member, as_table, get_member}
 use Rattle.vx_value.specs.Texts.{ByteString}
 use Rattle.vx_value.proofs.Order.{observed_same, same_text-true}
 use Rattle.vx_plan.specs.declared.route.Route.{Route as Way}
-use Rattle.vx_reading.specs.declared.diagnostic.Diagnostic.{Diagnostic}
 use Rattle.vx_reading.specs.declared.kind.Kind.TheVariants.{Route}
 use Rattle.vx_reading.specs.Components.{Part, parts, kind_of}
-use Rattle.vx_reading.specs.Diagnostics.{Owner, diagnostics, kind_diagnostics, own_diagnostics, later_diagnostics, option_diagnostics, given_diagnostics, row_diagnostics, lacking, crowded}
+use Rattle.vx_reading.specs.Diagnostics.{Owner, diagnostics, kind_diagnostics, own_diagnostics, later_diagnostics, option_diagnostics, given_diagnostics, row_diagnostics, at_option, lacking}
 use Rattle.vx_reading.specs.Judging.{Pair, pairs_of, pairs_in, is_table, Given, given_by, given, within, alone, count_given}
-use Rattle.vx_reading.specs.Options.{rows_of, type_row, inputs_row, route_row, most_routes, covers}
+use Rattle.vx_reading.specs.Options.{rows_of, type_row, inputs_row, route_row, most_routes, place_path, covers}
 use Rattle.vx_reading.specs.Plans.{way_of, ways_of}
 use Rattle.vx_reading.proofs.Faultless.{each_faultless}
-use Rattle.vx_reading.proofs.Few.{none_left, none_right}
+use Rattle.vx_reading.proofs.Few.{none_left, none_right, few_of}
 
 -- HOW MANY ARE GIVEN
 one_more : (a b : ℕ) → a ≡ b → 1 + a ≡ suc b
@@ -84,27 +82,17 @@ members_count (member name value rest) = go (slice_cmp nat_cmp (codes "route") n
 -- as many ways as are given, at the most
 ways_count : (value : Data) → length (ways_of value) ≤ count_given route_row.place (given (rows_of Route) (pairs_in value))
 ways_count (table ms) = members_count ms
-ways_count (string s) = omega arith
-ways_count (integer z) = omega arith
-ways_count (float x) = omega arith
-ways_count (boolean b) = omega arith
-ways_count (datetime d) = omega arith
-ways_count (array ds) = omega arith
+ways_count value = omega arith
 
 -- WHERE NO FAULT IS FOUND
-uncrowded : (b : Bool) (diagnostic : Diagnostic) → (if b then diagnostic ∷ [] else []) ≡ [] → b ≡ false
-uncrowded true diagnostic none = cc
-uncrowded false diagnostic none = refl
-
 few_given : (owner : Owner) (lead : ByteString) (all : List Given) → option_diagnostics owner lead (rows_of Route) all ≡ [] → count_given route_row.place all ≤ 64
 few_given owner lead all none =
     let rows = none_right (given_diagnostics owner lead (rows_of Route) all) _ none in
     let behind_type = none_right (row_diagnostics owner lead all type_row) _ rows in
     let behind_inputs = none_right (row_diagnostics owner lead all inputs_row) _ behind_type in
     let of_route = none_left (row_diagnostics owner lead all route_row) _ behind_inputs in
-    let free = none_right (lacking owner lead all route_row) (crowded owner lead all route_row) of_route in
-    let few : nat_lt most_routes (count_given route_row.place all) ≡ false = uncrowded (nat_lt most_routes (count_given route_row.place all)) _ free in
-    grind (arith, nat_tests)
+    let free = none_right (at_option owner lead route_row.place (lacking all route_row)) _ of_route in
+    few_of owner (lead ++ place_path route_row.place) (count_given route_row.place all) most_routes free
 
 few_of_kind : (first : Option ByteString) (part : Part) → kind_diagnostics first part Route ≡ [] → length (ways_of part.value) ≤ 64
 few_of_kind first part none =

@@ -1,6 +1,6 @@
 -- What has a plan of which no condition could be refused is read surely.
 use Rattle.std.proofs.Common.{◌≡◌, inl, inr, Bool, true, false, List, [], ◌∷◌, ◌++◌, Ok, Err, refl, sym, ◌∙◌, ap, subst}
-use Rattle.std.specs.Prelude.{if◌then◌else◌}
+use Rattle.std.specs.Prelude.{not}
 use Rattle.std.specs.List.{AllByRecursion, flat_map}
 use Rattle.vx_value.specs.declared.variable.Variable.{Variable}
 use Rattle.vx_value.specs.Texts.{ByteString}
@@ -9,11 +9,10 @@ use Rattle.vx_plan.specs.declared.component.Component.{Component}
 use Rattle.vx_plan.specs.declared.plan.Plan.{Plan}
 use Rattle.vx_reading.specs.declared.diagnostic.Diagnostic.{Diagnostic}
 use Rattle.vx_reading.specs.declared.plan_fault.PlanFault.{PlanFault}
-use Rattle.vx_reading.specs.declared.plan_fault.PlanFault.TheVariants.{MissingVariable, NotToml, UnknownKind, UnknownOption, MissingOption, BadValue, TooMany, Graph, WantOfMemory}
+use Rattle.vx_reading.specs.declared.plan_fault.PlanFault.TheVariants.{MissingVariable, NotToml, WantOfMemory}
 use Rattle.vx_reading.specs.Conditions.{Placed, placed_in, conditions_by, all_conditions, owner_by, lead_of, IsRefusable, NoneRefusable, RefusesRightly, refusal, refusals_of, refusals}
-use Rattle.vx_reading.specs.declared.trouble.Trouble.TheVariants as trouble
-use Rattle.vx_reading.specs.Diagnostics.{diagnostics, found}
-use Rattle.vx_reading.specs.Options.{place_path}
+use Rattle.vx_reading.specs.Diagnostics.{at_option, diagnostics}
+use Rattle.vx_reading.specs.Judging.{bad_unless}
 use Rattle.vx_reading.specs.Plans.{plan_of}
 use Rattle.vx_reading.specs.Reading.{IsPlanOf, IsRightlyJudged, IsDocumentJudged, IsTextRead, IsReading}
 use Rattle.vx_reading.proofs.Apart.{all_left, all_right}
@@ -26,7 +25,7 @@ module _ (refuses : ByteString → Bool) where
   none_placed : (c : Component) (placed : List Placed) → AllByRecursion (λ (text : ByteString). refuses text ≡ false) (texts_of placed) → flat_map (refusal refuses c) placed ≡ []
   none_placed c [] all = refl
   none_placed c (p ∷ rest) all =
-      ap (λ (b : Bool). (if b then found (owner_by c) (lead_of c ++ place_path p.place) trouble.BadValue ∷ [] else []) ++ flat_map (refusal refuses c) rest) all.0 ∙ none_placed c rest all.1
+      ap (λ (b : Bool). at_option (owner_by c) (lead_of c) p.place (bad_unless (not b)) ++ flat_map (refusal refuses c) rest) all.0 ∙ none_placed c rest all.1
 
   none_by : (c : Component) → AllByRecursion (λ (text : ByteString). refuses text ≡ false) (conditions_by c) → refusals_of refuses c ≡ []
   none_by c all = none_placed c (placed_in c.settings) (subst (λ (texts : List ByteString). AllByRecursion (λ (text : ByteString). refuses text ≡ false) texts) (sym (placed_texts c.settings)) all)
@@ -77,13 +76,8 @@ text_sure : (refuses other : ByteString → Bool) (environment : List Variable) 
     IsTextRead other environment text (Ok plan) → IsTextRead refuses environment text (Err fault) → (fault ≡ WantOfMemory → ⊥) → IsTextRead refuses environment text (Ok plan)
 text_sure refuses other environment text plan (MissingVariable name at) sure p f some = let e = sym p.document.whole ∙ f.lacking in cc
 text_sure refuses other environment text plan NotToml sure p f some = let e = sym p.document.parsed ∙ f.parsed in cc
-text_sure refuses other environment text plan (UnknownKind path) sure p f some = document_sure refuses other environment text plan (UnknownKind path) sure p f some
-text_sure refuses other environment text plan (UnknownOption path) sure p f some = document_sure refuses other environment text plan (UnknownOption path) sure p f some
-text_sure refuses other environment text plan (MissingOption path) sure p f some = document_sure refuses other environment text plan (MissingOption path) sure p f some
-text_sure refuses other environment text plan (BadValue path) sure p f some = document_sure refuses other environment text plan (BadValue path) sure p f some
-text_sure refuses other environment text plan (TooMany path count most) sure p f some = document_sure refuses other environment text plan (TooMany path count most) sure p f some
-text_sure refuses other environment text plan (Graph fault) sure p f some = document_sure refuses other environment text plan (Graph fault) sure p f some
 text_sure refuses other environment text plan WantOfMemory sure p f some = absurd (some refl)
+text_sure refuses other environment text plan fault sure p f some = document_sure refuses other environment text plan fault sure p f some
 
 -- it is refused for want of memory alone
 pub surely_read : (environment : List Variable) (bytes : ByteString) (plan : Plan) (fault : PlanFault) → NoneRefusable plan.components → IsReading environment bytes (Ok plan) →

@@ -1,5 +1,5 @@
 -- The conditions of a plan, and the faults of those that are refused.
-use Rattle.std.specs.Prelude.{◌≡◌, Bool, true, false, Option, Some, None, List, [], ◌∷◌, ◌++◌, map, codes, if◌then◌else◌}
+use Rattle.std.specs.Prelude.{◌≡◌, Bool, true, false, Option, Some, None, List, [], ◌∷◌, ◌++◌, map, codes, not}
 use Rattle.std.specs.List.{AllByRecursion, list_any, flat_map}
 use Rattle.vx_value.specs.Texts.{ByteString, same_text}
 use Rattle.toml.specs.Data.{Data}
@@ -12,10 +12,10 @@ use Rattle.vx_plan.specs.declared.settings.Settings.{Settings}
 use Rattle.vx_plan.specs.declared.settings.Settings.TheVariants.{Filter, Route, Sample, Reduce}
 use Rattle.vx_plan.specs.Options.{conditions_of}
 use Rattle.vx_reading.specs.declared.diagnostic.Diagnostic.{Diagnostic}
-use Rattle.vx_reading.specs.declared.trouble.Trouble.TheVariants.{BadValue}
 use Rattle.vx_reading.specs.Components.{section_name}
-use Rattle.vx_reading.specs.Diagnostics.{Owner, found, diagnostics, section_number}
-use Rattle.vx_reading.specs.Options.{Place, Alone, Within, dot, place_path}
+use Rattle.vx_reading.specs.Diagnostics.{Owner, owner_in, at_option, diagnostics}
+use Rattle.vx_reading.specs.Judging.{bad_unless}
+use Rattle.vx_reading.specs.Options.{Place, Alone, Within, dot}
 use Rattle.vx_reading.specs.Plans.{plan_of}
 
 -- the text of a condition, and where the table of its component has it
@@ -72,14 +72,14 @@ pub record RefusesRightly (refuses : ByteString → Bool) (texts : List ByteStri
 
 -- to whom the faults of a component of a plan belong, and what leads to its options
 abbrev pub owner_by : Component → Owner
-owner_by c = record { section = section_number c.class; name = c.name }
+owner_by c = owner_in c.class c.name
 
 abbrev pub lead_of : Component → ByteString
 lead_of c = (section_name c.class ++ dot ∷ c.name) ++ dot ∷ []
 
 -- the fault of a condition that is refused
 abbrev pub refusal : (ByteString → Bool) → Component → Placed → List Diagnostic
-refusal refuses c p = if refuses p.text then found (owner_by c) (lead_of c ++ place_path p.place) BadValue ∷ [] else []
+refusal refuses c p = at_option (owner_by c) (lead_of c) p.place (bad_unless (not (refuses p.text)))
 
 -- those of a component, and of all
 abbrev pub refusals_of : (ByteString → Bool) → Component → List Diagnostic

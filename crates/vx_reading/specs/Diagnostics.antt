@@ -12,8 +12,8 @@ use Rattle.vx_reading.specs.declared.plan_fault.PlanFault.TheVariants as faults
 use Rattle.vx_reading.specs.declared.trouble.Trouble.{Trouble}
 use Rattle.vx_reading.specs.declared.trouble.Trouble.TheVariants.{UnknownKind, UnknownOption, MissingOption, BadValue, TooMany}
 use Rattle.vx_reading.specs.Components.{Part, section_name, section, parts, part_path, is_name, is_taken, type_in, first_stdin, is_later_stdin}
-use Rattle.vx_reading.specs.Judging.{Pair, pairs_in, is_table, Given, given, is_given, count_given, judged}
-use Rattle.vx_reading.specs.Options.{Row, Exclusion, exclusion_of, dot, place_path, most_at, global_rows, rows_of, stage_rows, most_capacity, kind_named}
+use Rattle.vx_reading.specs.Judging.{Pair, pairs_in, is_table, Given, given, is_given, count_given, bad_unless, too_many, judged}
+use Rattle.vx_reading.specs.Options.{Place, Alone, Row, Exclusion, exclusion_of, dot, place_path, most_at, global_rows, rows_of, stage_rows, most_capacity, kind_named}
 use Rattle.vx_reading.specs.Stages.{stages_for, when_full_of, is_misplaced, capacity_of_all}
 
 -- the part of a document to which a fault belongs: 0 for the global options, 1 to 3 for the three tables, and a component's name
@@ -29,8 +29,11 @@ section_number Sink = 3
 abbrev pub global_owner : Owner
 global_owner = record { section = 0; name = [] }
 
+abbrev pub owner_in : Class → ByteString → Owner
+owner_in class name = record { section = section_number class; name = name }
+
 abbrev pub owner_of : Part → Owner
-owner_of part = record { section = section_number part.class; name = part.name }
+owner_of part = owner_in part.class part.name
 
 -- something that is wrong at a path
 abbrev pub found : Owner → ByteString → Trouble → Diagnostic
@@ -41,37 +44,33 @@ abbrev pub found_if : Owner → ByteString → Option Trouble → List Diagnosti
 found_if owner path None = []
 found_if owner path (Some trouble) = found owner path trouble ∷ []
 
--- the faults of what a table gives; a path begins with what leads to the table
+-- the same at the path of an option, which begins with what leads to its table
+abbrev pub at_option : Owner → ByteString → Place → Option Trouble → List Diagnostic
+at_option owner lead place trouble = found_if owner (lead ++ place_path place) trouble
+
+-- the faults of what a table gives
 abbrev pub given_diagnostics : Owner → ByteString → List Row → List Given → List Diagnostic
-given_diagnostics owner lead rows all =
-    flat_map (λ (g : Given). found_if owner (lead ++ place_path g.place) (judged rows g)) all
+given_diagnostics owner lead rows all = flat_map (λ (g : Given). at_option owner lead g.place (judged rows g)) all
 
--- the fault of an option that has to be there and isn't
-abbrev pub lacking : Owner → ByteString → List Given → Row → List Diagnostic
-lacking owner lead all row =
-    if row.required && not (is_given row.place all) then found owner (lead ++ place_path row.place) MissingOption ∷ [] else []
+-- what is wrong with an option that has to be there and isn't
+abbrev pub lacking : List Given → Row → Option Trouble
+lacking all row = if row.required && not (is_given row.place all) then Some MissingOption else None
 
--- the fault of an option that is given more often than it may be
-abbrev pub crowded : Owner → ByteString → List Given → Row → List Diagnostic
-crowded owner lead all row =
-    elim (most_at row.place) [
-      | None ↦ []
-      | Some most ↦ if nat_lt most (count_given row.place all) then found owner (lead ++ place_path row.place) (TooMany (count_given row.place all) most) ∷ [] else []
-    ]
+-- what is wrong with an option that is given more often than it may be
+abbrev pub crowded : List Given → Row → Option Trouble
+crowded all row = elim (most_at row.place) [ None ↦ None | Some most ↦ too_many (count_given row.place all) most ]
 
 -- the faults of how often an option is given
 abbrev pub row_diagnostics : Owner → ByteString → List Given → Row → List Diagnostic
-row_diagnostics owner lead all row = lacking owner lead all row ++ crowded owner lead all row
+row_diagnostics owner lead all row = at_option owner lead row.place (lacking all row) ++ at_option owner lead row.place (crowded all row)
 
 -- the faults of a table's options
 abbrev pub option_diagnostics : Owner → ByteString → List Row → List Given → List Diagnostic
 option_diagnostics owner lead rows all = given_diagnostics owner lead rows all ++ flat_map (row_diagnostics owner lead all) rows
 
--- the fault of two options that exclude each other and are both given
-abbrev pub excluded : Owner → ByteString → List Given → Option Exclusion → List Diagnostic
-excluded owner lead all None = []
-excluded owner lead all (Some x) =
-    if is_given x.earlier all && is_given x.later all then found owner (lead ++ place_path x.later) BadValue ∷ [] else []
+-- what is wrong with the later one of two options that exclude each other, where both are given
+abbrev pub excluded : List Given → Exclusion → Option Trouble
+excluded all x = bad_unless (not (is_given x.earlier all && is_given x.later all))
 
 -- whether a name is that of one of the three tables
 abbrev pub is_section : ByteString → Bool
@@ -82,27 +81,31 @@ is_section name =
 abbrev pub global_given : Data → List Given
 global_given root = given global_rows (filter (λ (p : Pair). not (is_section p.name)) (pairs_in root))
 
+-- a fault at the table of a class
+abbrev pub at_table : ℕ → Class → Option Trouble → List Diagnostic
+at_table number class trouble = found_if (record { section = number; name = [] }) (section_name class) trouble
+
 -- the fault of one of the three that is no table
 abbrev pub section_diagnostics : Data → Class → List Diagnostic
 section_diagnostics root class =
-    elim (section root class) [
-      | None ↦ []
-      | Some value ↦ if is_table value then [] else found (record { section = section_number class; name = [] }) (section_name class) BadValue ∷ []
-    ]
+    elim (section root class) [ None ↦ [] | Some value ↦ at_table (section_number class) class (bad_unless (is_table value)) ]
 
 -- the fault of a component itself: it is no table, its name is malformed, or an earlier table has it
 abbrev pub part_diagnostic : Data → Part → List Diagnostic
 part_diagnostic root part =
-    if is_table part.value && (is_name part.name && not (is_taken root part.class part.name))
-    then [] else found (owner_of part) (part_path part) BadValue ∷ []
+    found_if (owner_of part) (part_path part) (bad_unless (is_table part.value && (is_name part.name && not (is_taken root part.class part.name))))
 
 -- the path of a component's type
 abbrev pub type_path : Part → ByteString
 type_path part = part_path part ++ dot ∷ codes "type"
 
+-- a fault there
+abbrev pub at_type : Part → Option Trouble → List Diagnostic
+at_type part trouble = found_if (owner_of part) (type_path part) trouble
+
 -- the fault of a component that reads standard input after another that does
 abbrev pub later_diagnostics : Option ByteString → Part → List Diagnostic
-later_diagnostics first part = if is_later_stdin first part then found (owner_of part) (type_path part) BadValue ∷ [] else []
+later_diagnostics first part = at_type part (bad_unless (not (is_later_stdin first part)))
 
 -- what leads to the options of a component, and to those of a stage of its buffer
 abbrev pub part_lead : Part → ByteString
@@ -111,14 +114,14 @@ part_lead part = part_path part ++ dot ∷ []
 abbrev pub buffer_lead : Part → ByteString
 buffer_lead part = part_lead part ++ codes "buffer."
 
--- the fault of a stage that stands where it may not, by whether it is the last
-abbrev pub misplaced : Owner → ByteString → Bool → Data → List Diagnostic
-misplaced owner lead last stage = if is_misplaced last (when_full_of stage) then found owner (lead ++ codes "when_full") BadValue ∷ [] else []
+-- what is wrong with the place of a stage, by whether it is the last
+abbrev pub misplaced : Bool → Data → Option Trouble
+misplaced last stage = bad_unless (not (is_misplaced last (when_full_of stage)))
 
 -- the faults of a stage
 abbrev pub stage_diagnostics : Owner → ByteString → Bool → Data → List Diagnostic
 stage_diagnostics owner lead last stage =
-    option_diagnostics owner lead stage_rows (given stage_rows (pairs_in stage)) ++ misplaced owner lead last stage
+    option_diagnostics owner lead stage_rows (given stage_rows (pairs_in stage)) ++ at_option owner lead (Alone (codes "when_full")) (misplaced last stage)
 
 -- the faults of the stages of a buffer, in order
 abbrev pub buffer_diagnostics : Owner → ByteString → List Data → List Diagnostic
@@ -128,7 +131,8 @@ buffer_diagnostics owner lead (stage ∷ rest) = stage_diagnostics owner lead (i
 -- the faults of the options of a component of a type
 abbrev pub own_diagnostics : Part → Kind → List Given → List Diagnostic
 own_diagnostics part kind all =
-    option_diagnostics (owner_of part) (part_lead part) (rows_of kind) all ++ excluded (owner_of part) (part_lead part) all (exclusion_of kind)
+    option_diagnostics (owner_of part) (part_lead part) (rows_of kind) all
+    ++ elim (exclusion_of kind) [ None ↦ [] | Some x ↦ at_option (owner_of part) (part_lead part) x.later (excluded all x) ]
 
 -- the faults of a component whose type is known
 abbrev pub kind_diagnostics : Option ByteString → Part → Kind → List Diagnostic
@@ -139,17 +143,17 @@ kind_diagnostics first part kind =
 
 -- the same by what its type is called
 abbrev pub named_diagnostics : Option ByteString → Part → Option Kind → List Diagnostic
-named_diagnostics first part None = found (owner_of part) (type_path part) UnknownKind ∷ []
+named_diagnostics first part None = at_type part (Some UnknownKind)
 named_diagnostics first part (Some kind) = kind_diagnostics first part kind
 
 -- the same by its type, which has to be a text
 abbrev pub text_diagnostics : Option ByteString → Part → Option ByteString → List Diagnostic
-text_diagnostics first part None = found (owner_of part) (type_path part) BadValue ∷ []
+text_diagnostics first part None = at_type part (Some BadValue)
 text_diagnostics first part (Some text) = named_diagnostics first part (kind_named part.class text)
 
 -- the same by its type, which has to be there
 abbrev pub type_diagnostics : Option ByteString → Part → Option Data → List Diagnostic
-type_diagnostics first part None = found (owner_of part) (type_path part) MissingOption ∷ []
+type_diagnostics first part None = at_type part (Some MissingOption)
 type_diagnostics first part (Some value) = text_diagnostics first part (as_str value)
 
 -- the faults of a component; one that is no table has no options
@@ -163,15 +167,11 @@ most_parts = 256
 
 -- the fault of too many components
 abbrev pub count_diagnostics : Data → List Diagnostic
-count_diagnostics root =
-    if nat_lt most_parts (length (parts root))
-    then found global_owner (section_name Source) (TooMany (length (parts root)) most_parts) ∷ [] else []
+count_diagnostics root = at_table 0 Source (too_many (length (parts root)) most_parts)
 
 -- the fault of stages of sinks that have too much room together
 abbrev pub capacity_diagnostics : Data → List Diagnostic
-capacity_diagnostics root =
-    if nat_lt most_capacity (capacity_of_all (parts root))
-    then found (record { section = section_number Sink; name = [] }) (section_name Sink) (TooMany (capacity_of_all (parts root)) most_capacity) ∷ [] else []
+capacity_diagnostics root = at_table (section_number Sink) Sink (too_many (capacity_of_all (parts root)) most_capacity)
 
 -- the faults of the global options
 abbrev pub global_diagnostics : Data → List Diagnostic

@@ -4,10 +4,12 @@ use Rattle.std.specs.List.{list_any, list_all, flat_map}
 use Rattle.vx_value.specs.Texts.{ByteString, same_text, is_empty}
 use Rattle.vx_value.specs.Paths.{path_names}
 use Rattle.toml.specs.Data.{Data, Items, no_items, item, Members, no_members, member, get, as_table, as_array, as_str, as_integer, as_bool}
+use Rattle.vx_reading.specs.declared.item.Item.{Item}
+use Rattle.vx_reading.specs.declared.item.Item.TheVariants as item
 use Rattle.vx_reading.specs.declared.trouble.Trouble.{Trouble}
 use Rattle.vx_reading.specs.declared.trouble.Trouble.TheVariants.{UnknownOption, BadValue, TooMany}
 use Rattle.vx_reading.specs.Made.{is_unbroken}
-use Rattle.vx_reading.specs.Options.{Place, Alone, Within, Either, Each, Any, Shape, Truth, AnyText, OneOf, Texts, Whole, Condition, Stages, Lines, OneFile, FixedText, Paths, Names, Row, covers, fits_place}
+use Rattle.vx_reading.specs.Options.{Place, Alone, Within, Either, Each, Any, Shape, Truth, AnyText, OneOf, Texts, Whole, Condition, Stages, ListOf, OneFile, FixedText, Row, covers, fits_place}
 
 -- a name and the value under it
 pub record Pair : Type 0 where
@@ -82,12 +84,6 @@ is_text value = elim (as_str value) [ None ↦ false | Some text ↦ true ]
 abbrev pub is_one_of : List ByteString → Data → Bool
 is_one_of texts value = elim (as_str value) [ None ↦ false | Some text ↦ list_any (λ t. same_text t text) texts ]
 
--- what is wrong with a list of texts, at most so many
-abbrev pub fits_texts : ℕ → List Data → Option Trouble
-fits_texts most items =
-    if list_any (λ d. not (is_text d)) items then Some BadValue
-    else (if nat_lt most (length items) then Some (TooMany (length items) most) else None)
-
 -- a whole number, where it is between two, both among them
 abbrev pub between : ℕ → ℕ → ℤ → Option ℕ
 between least most (pos n) = if nat_le least n && nat_le n most then Some n else None
@@ -115,23 +111,9 @@ is_vrl value = names_vrl (get (codes "type") value) && has_text (get (codes "sou
 abbrev pub stages_in : Data → List Data
 stages_in value = elim (as_array value) [ None ↦ (if is_table value then value ∷ [] else []) | Some items ↦ items_in items ]
 
--- what is wrong with stages, at most so many: there is none, or one is no table
-abbrev pub fits_stages : ℕ → List Data → Option Trouble
-fits_stages most stages =
-    if is_empty stages || list_any (λ d. not (is_table d)) stages then Some BadValue
-    else (if nat_lt most (length stages) then Some (TooMany (length stages) most) else None)
-
 -- whether a value is a text without a line feed
 abbrev pub is_line : Data → Bool
 is_line value = elim (as_str value) [ None ↦ false | Some text ↦ is_unbroken text ]
-
--- whether a list has values, and each is such a text
-abbrev pub are_lines : List Data → Bool
-are_lines items = not (is_empty items) && list_all is_line items
-
--- whether a value is such a list
-abbrev pub is_lines : Data → Bool
-is_lines value = elim (as_array value) [ None ↦ false | Some items ↦ are_lines (items_in items) ]
 
 -- whether a byte stands in a text
 abbrev pub has_byte : ℕ → ByteString → Bool
@@ -150,12 +132,13 @@ abbrev pub is_file : Data → Bool
 is_file value = elim (as_str value) [ None ↦ false | Some text ↦ not (is_pattern text) ]
 
 -- whether a list has one value, and that is such a text
-abbrev pub are_one_file : List Data → Bool
-are_one_file items = (length items == 1) && list_all is_file items
+abbrev pub is_single : List Data → Bool
+is_single (value ∷ []) = is_file value
+is_single other = false
 
 -- whether a value is such a list
 abbrev pub is_one_file : Data → Bool
-is_one_file value = elim (as_array value) [ None ↦ false | Some items ↦ are_one_file (items_in items) ]
+is_one_file value = elim (as_array value) [ None ↦ false | Some items ↦ is_single (items_in items) ]
 
 -- whether a value is a text that is no template
 abbrev pub is_fixed : Data → Bool
@@ -169,32 +152,49 @@ path_spelled text = elim (path_names text) [ None ↦ None | Some names ↦ if n
 abbrev pub is_path : Data → Bool
 is_path value = elim (as_str value) [ None ↦ false | Some text ↦ is_some (path_spelled text) ]
 
--- whether a list has at least so many values, and each is one
-abbrev pub are_paths : ℕ → List Data → Bool
-are_paths least items = nat_le least (length items) && list_all is_path items
+-- whether a value is what an item of a list has to be
+abbrev pub is_item : Item → Data → Bool
+is_item item.Text value = is_text value
+is_item item.Table value = is_table value
+is_item item.Line value = is_line value
+is_item item.Path value = is_path value
+
+-- whether a list has at least so many such items, and no others
+abbrev pub are_items : Item → ℕ → List Data → Bool
+are_items of least values = nat_le least (length values) && list_all (is_item of) values
 
 -- whether a value is such a list
-abbrev pub is_paths : ℕ → Data → Bool
-is_paths least value = elim (as_array value) [ None ↦ false | Some items ↦ are_paths least (items_in items) ]
+abbrev pub is_list_of : Item → ℕ → Data → Bool
+is_list_of of least value = elim (as_array value) [ None ↦ false | Some items ↦ are_items of least (items_in items) ]
 
--- whether a value is a list of texts
-abbrev pub is_names : Data → Bool
-is_names value = elim (as_array value) [ None ↦ false | Some items ↦ not (list_any (λ d. not (is_text d)) (items_in items)) ]
+-- what is wrong with a value that isn't what it has to be
+abbrev pub bad_unless : Bool → Option Trouble
+bad_unless right = if right then None else Some BadValue
+
+-- what is wrong with so many of something, of which there may be so many
+abbrev pub too_many : ℕ → ℕ → Option Trouble
+too_many count most = if nat_lt most count then Some (TooMany count most) else None
+
+-- what is wrong with the items of a list, at most so many
+abbrev pub fits_list : Item → ℕ → List Data → Option Trouble
+fits_list of most values = if list_all (is_item of) values then too_many (length values) most else Some BadValue
+
+-- what is wrong with stages, at most so many: there is none, or one is no table
+abbrev pub fits_stages : ℕ → List Data → Option Trouble
+fits_stages most stages = if is_empty stages then Some BadValue else fits_list item.Table most stages
 
 -- what is wrong with a value, by what it has to be
 abbrev pub fits : Shape → Data → Option Trouble
-fits Truth value = if is_truth value then None else Some BadValue
-fits AnyText value = if is_text value then None else Some BadValue
-fits (OneOf texts) value = if is_one_of texts value then None else Some BadValue
-fits (Texts most) value = elim (as_array value) [ None ↦ Some BadValue | Some items ↦ fits_texts most (items_in items) ]
-fits (Whole least most) value = elim (whole_in least most value) [ None ↦ Some BadValue | Some n ↦ None ]
-fits Condition value = if is_text value || is_vrl value then None else Some BadValue
+fits Truth value = bad_unless (is_truth value)
+fits AnyText value = bad_unless (is_text value)
+fits (OneOf texts) value = bad_unless (is_one_of texts value)
+fits (Texts most) value = elim (as_array value) [ None ↦ Some BadValue | Some items ↦ fits_list item.Text most (items_in items) ]
+fits (Whole least most) value = bad_unless (is_some (whole_in least most value))
+fits Condition value = bad_unless (is_text value || is_vrl value)
 fits (Stages most) value = fits_stages most (stages_in value)
-fits Lines value = if is_lines value then None else Some BadValue
-fits OneFile value = if is_one_file value then None else Some BadValue
-fits FixedText value = if is_fixed value then None else Some BadValue
-fits (Paths least) value = if is_paths least value then None else Some BadValue
-fits Names value = if is_names value then None else Some BadValue
+fits (ListOf of least) value = bad_unless (is_list_of of least value)
+fits OneFile value = bad_unless (is_one_file value)
+fits FixedText value = bad_unless (is_fixed value)
 
 -- the row of what is given at a place
 abbrev pub row_at : List Row → Place → Option Row

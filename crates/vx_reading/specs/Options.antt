@@ -5,6 +5,8 @@ use Rattle.vx_value.specs.Texts.{ByteString, same_text}
 use Rattle.vx_plan.specs.declared.class.Class.{Class}
 use Rattle.vx_plan.specs.declared.class.Class.TheVariants.{Source, Transform, Sink}
 pub use Rattle.vx_plan.specs.Accepted.{same_class}
+use Rattle.vx_reading.specs.declared.item.Item.{Item}
+use Rattle.vx_reading.specs.declared.item.Item.TheVariants as item
 use Rattle.vx_reading.specs.declared.kind.Kind.{Kind}
 use Rattle.vx_reading.specs.declared.kind.Kind.TheVariants.{Stdin, FileIn, DemoLogs, Filter, Route, Sample, Dedupe, Reduce, Host, Console, FileOut, Blackhole}
 use Rattle.vx_reading.specs.Strategies.{hows, how_name}
@@ -20,8 +22,8 @@ pub data Place : Type 0 where
   Any : ByteString → Place
 
 -- what a value has to be: a truth, a text, one of some texts, a list of texts, at most so many, a whole number between two, both
--- among them, a condition, the stages of a buffer, at most so many, a list of some texts without line feeds, a list of one text that is
--- no pattern, a text that is no template, a list of texts that are paths of fields, at least so many, or a list of texts
+-- among them, a condition, the stages of a buffer, at most so many, a list of so many items at least, a list of one text that is no
+-- pattern, or a text that is no template
 pub data Shape : Type 0 where
   Truth : Shape
   AnyText : Shape
@@ -30,17 +32,22 @@ pub data Shape : Type 0 where
   Whole : ℕ → ℕ → Shape
   Condition : Shape
   Stages : ℕ → Shape
-  Lines : Shape
+  ListOf : Item → ℕ → Shape
   OneFile : Shape
   FixedText : Shape
-  Paths : ℕ → Shape
-  Names : Shape
 
 -- an option: where it stands, what its value has to be, and whether it has to be there
 pub record Row : Type 0 where
   pub place : Place
   pub shape : Shape
   pub required : Bool
+
+-- one that may be there, and one that has to be
+abbrev pub optional : Place → Shape → Row
+optional place shape = record { place = place; shape = shape; required = false }
+
+abbrev pub mandatory : Place → Shape → Row
+mandatory place shape = record { place = place; shape = shape; required = true }
 
 -- the byte `.`
 abbrev pub dot : ℕ
@@ -94,27 +101,27 @@ most_at other = None
 
 -- whether sinks acknowledge: a global option, and one of every sink
 abbrev pub acknowledgements_row : Row
-acknowledgements_row = record { place = Either (codes "acknowledgements") (codes "enabled"); shape = Truth; required = false }
+acknowledgements_row = optional (Either (codes "acknowledgements") (codes "enabled")) Truth
 
 -- the global options
 abbrev pub global_rows : List Row
-global_rows = record { place = Alone (codes "data_dir"); shape = AnyText; required = false } ∷ acknowledgements_row ∷ []
+global_rows = optional (Alone (codes "data_dir")) AnyText ∷ acknowledgements_row ∷ []
 
 -- an option of every component
 abbrev pub type_row : Row
-type_row = record { place = Alone (codes "type"); shape = AnyText; required = true }
+type_row = mandatory (Alone (codes "type")) AnyText
 
 -- an option of every component that reads others; the graph asks for one input at least
 abbrev pub inputs_row : Row
-inputs_row = record { place = Alone (codes "inputs"); shape = Texts 256; required = false }
+inputs_row = optional (Alone (codes "inputs")) (Texts 256)
 
 -- where a console writes
 abbrev pub target_row : Row
-target_row = record { place = Alone (codes "target"); shape = OneOf (codes "stdout" ∷ codes "stderr" ∷ []); required = false }
+target_row = optional (Alone (codes "target")) (OneOf (codes "stdout" ∷ codes "stderr" ∷ []))
 
 -- how a sink writes an event
 abbrev pub codec_row : Row
-codec_row = record { place = Within (codes "encoding") (codes "codec"); shape = OneOf (codes "text" ∷ codes "json" ∷ []); required = true }
+codec_row = mandatory (Within (codes "encoding") (codes "codec")) (OneOf (codes "text" ∷ codes "json" ∷ []))
 
 -- the longest line that a source may allow, without its line feed
 abbrev pub most_length : ℕ
@@ -122,31 +129,31 @@ most_length = 16777216
 
 -- the longest line that a source takes
 abbrev pub length_row : Row
-length_row = record { place = Alone (codes "max_length"); shape = Whole 1 most_length; required = false }
+length_row = optional (Alone (codes "max_length")) (Whole 1 most_length)
 
 -- how a source makes an event of a line
 abbrev pub decoding_row : Row
-decoding_row = record { place = Within (codes "decoding") (codes "codec"); shape = OneOf (codes "bytes" ∷ codes "json" ∷ []); required = false }
+decoding_row = optional (Within (codes "decoding") (codes "codec")) (OneOf (codes "bytes" ∷ codes "json" ∷ []))
 
 -- the longest line that a source takes from its file
 abbrev pub line_bytes_row : Row
-line_bytes_row = record { place = Alone (codes "max_line_bytes"); shape = Whole 1 most_length; required = false }
+line_bytes_row = optional (Alone (codes "max_line_bytes")) (Whole 1 most_length)
 
 -- which file a source reads
 abbrev pub include_row : Row
-include_row = record { place = Alone (codes "include"); shape = OneFile; required = true }
+include_row = mandatory (Alone (codes "include")) OneFile
 
 -- where it reads from that has no checkpoint
 abbrev pub read_from_row : Row
-read_from_row = record { place = Alone (codes "read_from"); shape = OneOf (codes "beginning" ∷ []); required = false }
+read_from_row = optional (Alone (codes "read_from")) (OneOf (codes "beginning" ∷ []))
 
 -- to which file a sink appends
 abbrev pub path_row : Row
-path_row = record { place = Alone (codes "path"); shape = FixedText; required = true }
+path_row = mandatory (Alone (codes "path")) FixedText
 
 -- how a sink compresses what it writes
 abbrev pub compression_row : Row
-compression_row = record { place = Alone (codes "compression"); shape = OneOf (codes "none" ∷ []); required = false }
+compression_row = optional (Alone (codes "compression")) (OneOf (codes "none" ∷ []))
 
 -- how many stages a buffer may have
 abbrev pub most_stages : ℕ
@@ -154,7 +161,7 @@ most_stages = 8
 
 -- the stages of a sink's buffer
 abbrev pub buffer_row : Row
-buffer_row = record { place = Alone (codes "buffer"); shape = Stages most_stages; required = false }
+buffer_row = optional (Alone (codes "buffer")) (Stages most_stages)
 
 -- for how many events a stage may have room, and all stages of all sinks together
 abbrev pub most_capacity : ℕ
@@ -163,14 +170,14 @@ most_capacity = 1000000
 -- the options of a stage
 abbrev pub stage_rows : List Row
 stage_rows =
-    record { place = Alone (codes "type"); shape = OneOf (codes "memory" ∷ []); required = false }
-    ∷ record { place = Alone (codes "max_events"); shape = Whole 1 most_capacity; required = false }
-    ∷ record { place = Alone (codes "when_full"); shape = OneOf (codes "block" ∷ codes "drop_newest" ∷ codes "overflow" ∷ []); required = false }
+    optional (Alone (codes "type")) (OneOf (codes "memory" ∷ []))
+    ∷ optional (Alone (codes "max_events")) (Whole 1 most_capacity)
+    ∷ optional (Alone (codes "when_full")) (OneOf (codes "block" ∷ codes "drop_newest" ∷ codes "overflow" ∷ []))
     ∷ []
 
 -- what a filter passes
 abbrev pub condition_row : Row
-condition_row = record { place = Alone (codes "condition"); shape = Condition; required = true }
+condition_row = mandatory (Alone (codes "condition")) Condition
 
 -- how many routes there may be
 abbrev pub most_routes : ℕ
@@ -178,11 +185,11 @@ most_routes = 64
 
 -- the conditions of a route, each under the name of its port
 abbrev pub route_row : Row
-route_row = record { place = Each (codes "route") most_routes; shape = Condition; required = true }
+route_row = mandatory (Each (codes "route") most_routes) Condition
 
 -- whether what no condition of a route accepts has a port of its own
 abbrev pub reroute_row : Row
-reroute_row = record { place = Alone (codes "reroute_unmatched"); shape = Truth; required = false }
+reroute_row = optional (Alone (codes "reroute_unmatched")) Truth
 
 -- the largest whole number that a text can say
 abbrev pub most_whole : ℕ
@@ -190,19 +197,19 @@ most_whole = 2 ^ 63 - 1
 
 -- of how many events that it counts a sample passes one
 abbrev pub rate_row : Row
-rate_row = record { place = Alone (codes "rate"); shape = Whole 1 most_whole; required = true }
+rate_row = mandatory (Alone (codes "rate")) (Whole 1 most_whole)
 
 -- what it passes uncounted
 abbrev pub exclude_row : Row
-exclude_row = record { place = Alone (codes "exclude"); shape = Condition; required = false }
+exclude_row = optional (Alone (codes "exclude")) Condition
 
 -- the values by which events repeat each other
 abbrev pub match_row : Row
-match_row = record { place = Within (codes "fields") (codes "match"); shape = Paths 1; required = false }
+match_row = optional (Within (codes "fields") (codes "match")) (ListOf item.Path 1)
 
 -- or the fields that don't count for that
 abbrev pub ignore_row : Row
-ignore_row = record { place = Within (codes "fields") (codes "ignore"); shape = Names; required = false }
+ignore_row = optional (Within (codes "fields") (codes "ignore")) (ListOf item.Text 0)
 
 -- how many keys a dedupe may keep
 abbrev pub most_keys : ℕ
@@ -210,19 +217,19 @@ most_keys = 1000000
 
 -- how many it keeps
 abbrev pub keys_row : Row
-keys_row = record { place = Within (codes "cache") (codes "num_events"); shape = Whole 1 most_keys; required = false }
+keys_row = optional (Within (codes "cache") (codes "num_events")) (Whole 1 most_keys)
 
 -- the values that tell the groups of a reduce apart
 abbrev pub group_by_row : Row
-group_by_row = record { place = Alone (codes "group_by"); shape = Paths 0; required = false }
+group_by_row = optional (Alone (codes "group_by")) (ListOf item.Path 0)
 
 -- which events begin a group
 abbrev pub starts_row : Row
-starts_row = record { place = Alone (codes "starts_when"); shape = Condition; required = false }
+starts_row = optional (Alone (codes "starts_when")) Condition
 
 -- or which end one
 abbrev pub ends_row : Row
-ends_row = record { place = Alone (codes "ends_when"); shape = Condition; required = false }
+ends_row = optional (Alone (codes "ends_when")) Condition
 
 -- how many milliseconds a reduce may say
 abbrev pub most_period : ℕ
@@ -230,31 +237,31 @@ most_period = 2 ^ 53
 
 -- how many milliseconds behind its last event a group is put out
 abbrev pub expire_row : Row
-expire_row = record { place = Alone (codes "expire_after_ms"); shape = Whole 1 most_period; required = false }
+expire_row = optional (Alone (codes "expire_after_ms")) (Whole 1 most_period)
 
 -- how many lie between two checks of that
 abbrev pub flush_row : Row
-flush_row = record { place = Alone (codes "flush_period_ms"); shape = Whole 1 most_period; required = false }
+flush_row = optional (Alone (codes "flush_period_ms")) (Whole 1 most_period)
 
 -- how fields are merged, each under the name of its field
 abbrev pub strategies_row : Row
-strategies_row = record { place = Any (codes "merge_strategies"); shape = OneOf (map how_name hows); required = false }
+strategies_row = optional (Any (codes "merge_strategies")) (OneOf (map how_name hows))
 
 -- what a source does with its texts
 abbrev pub format_row : Row
-format_row = record { place = Alone (codes "format"); shape = OneOf (codes "shuffle" ∷ []); required = true }
+format_row = mandatory (Alone (codes "format")) (OneOf (codes "shuffle" ∷ []))
 
 -- the texts of which a source makes its lines
 abbrev pub lines_row : Row
-lines_row = record { place = Alone (codes "lines"); shape = Lines; required = true }
+lines_row = mandatory (Alone (codes "lines")) (ListOf item.Line 1)
 
 -- whether each line begins with its number
 abbrev pub sequence_row : Row
-sequence_row = record { place = Alone (codes "sequence"); shape = Truth; required = false }
+sequence_row = optional (Alone (codes "sequence")) Truth
 
 -- how many lines a source makes
 abbrev pub count_row : Row
-count_row = record { place = Alone (codes "count"); shape = Whole 0 most_whole; required = false }
+count_row = optional (Alone (codes "count")) (Whole 0 most_whole)
 
 -- how many seconds an option may say: a day
 abbrev pub most_seconds : ℕ
@@ -262,11 +269,11 @@ most_seconds = 86400
 
 -- how many seconds lie between two lines
 abbrev pub interval_row : Row
-interval_row = record { place = Alone (codes "interval"); shape = Whole 0 most_seconds; required = false }
+interval_row = optional (Alone (codes "interval")) (Whole 0 most_seconds)
 
 -- by what the texts are chosen
 abbrev pub seed_row : Row
-seed_row = record { place = Alone (codes "seed"); shape = Whole 0 most_whole; required = false }
+seed_row = optional (Alone (codes "seed")) (Whole 0 most_whole)
 
 -- how many seconds a sink that writes nothing may say
 abbrev pub most_print_interval : ℕ
@@ -274,7 +281,7 @@ most_print_interval = 2 ^ 53
 
 -- a number of seconds without effect
 abbrev pub print_interval_row : Row
-print_interval_row = record { place = Alone (codes "print_interval_secs"); shape = Whole 0 most_print_interval; required = false }
+print_interval_row = optional (Alone (codes "print_interval_secs")) (Whole 0 most_print_interval)
 
 -- how many parcels a batch of a sink may have
 abbrev pub most_batch : ℕ
@@ -282,23 +289,27 @@ most_batch = 10000
 
 -- with how many parcels a batch of a sink is closed
 abbrev pub batch_events_row : Row
-batch_events_row = record { place = Within (codes "batch") (codes "max_events"); shape = Whole 1 most_batch; required = false }
+batch_events_row = optional (Within (codes "batch") (codes "max_events")) (Whole 1 most_batch)
 
 -- how many seconds behind its first parcel it is closed
 abbrev pub batch_timeout_row : Row
-batch_timeout_row = record { place = Within (codes "batch") (codes "timeout_secs"); shape = Whole 1 most_seconds; required = false }
+batch_timeout_row = optional (Within (codes "batch") (codes "timeout_secs")) (Whole 1 most_seconds)
 
 -- how often a sink makes a failed attempt again
 abbrev pub retries_row : Row
-retries_row = record { place = Within (codes "request") (codes "retry_attempts"); shape = Whole 0 most_whole; required = false }
+retries_row = optional (Within (codes "request") (codes "retry_attempts")) (Whole 0 most_whole)
 
 -- how many seconds it waits the first time
 abbrev pub first_wait_row : Row
-first_wait_row = record { place = Within (codes "request") (codes "retry_initial_backoff_secs"); shape = Whole 1 most_seconds; required = false }
+first_wait_row = optional (Within (codes "request") (codes "retry_initial_backoff_secs")) (Whole 1 most_seconds)
 
 -- and how many at the most
 abbrev pub longest_wait_row : Row
-longest_wait_row = record { place = Within (codes "request") (codes "retry_max_duration_secs"); shape = Whole 1 most_seconds; required = false }
+longest_wait_row = optional (Within (codes "request") (codes "retry_max_duration_secs")) (Whole 1 most_seconds)
+
+-- what every sink has but its type and its inputs
+abbrev pub sink_rows : List Row
+sink_rows = acknowledgements_row ∷ buffer_row ∷ batch_events_row ∷ batch_timeout_row ∷ retries_row ∷ first_wait_row ∷ longest_wait_row ∷ []
 
 -- the options of each type
 abbrev pub rows_of : Kind → List Row
@@ -311,9 +322,9 @@ rows_of Sample = type_row ∷ inputs_row ∷ rate_row ∷ exclude_row ∷ []
 rows_of Dedupe = type_row ∷ inputs_row ∷ match_row ∷ ignore_row ∷ keys_row ∷ []
 rows_of Reduce = type_row ∷ inputs_row ∷ group_by_row ∷ starts_row ∷ ends_row ∷ expire_row ∷ flush_row ∷ strategies_row ∷ []
 rows_of Host = type_row ∷ inputs_row ∷ []
-rows_of Console = type_row ∷ inputs_row ∷ target_row ∷ codec_row ∷ acknowledgements_row ∷ buffer_row ∷ batch_events_row ∷ batch_timeout_row ∷ retries_row ∷ first_wait_row ∷ longest_wait_row ∷ []
-rows_of FileOut = type_row ∷ inputs_row ∷ path_row ∷ compression_row ∷ codec_row ∷ acknowledgements_row ∷ buffer_row ∷ batch_events_row ∷ batch_timeout_row ∷ retries_row ∷ first_wait_row ∷ longest_wait_row ∷ []
-rows_of Blackhole = type_row ∷ inputs_row ∷ print_interval_row ∷ acknowledgements_row ∷ buffer_row ∷ batch_events_row ∷ batch_timeout_row ∷ retries_row ∷ first_wait_row ∷ longest_wait_row ∷ []
+rows_of Console = type_row ∷ inputs_row ∷ target_row ∷ codec_row ∷ sink_rows
+rows_of FileOut = type_row ∷ inputs_row ∷ path_row ∷ compression_row ∷ codec_row ∷ sink_rows
+rows_of Blackhole = type_row ∷ inputs_row ∷ print_interval_row ∷ sink_rows
 
 -- two options that exclude each other: what is wrong is the later one, by the bytes of their paths
 pub record Exclusion : Type 0 where

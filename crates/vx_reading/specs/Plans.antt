@@ -27,7 +27,8 @@ use Rattle.vx_reading.specs.declared.kind.Kind.{Kind}
 use Rattle.vx_reading.specs.declared.kind.Kind.TheVariants.{Stdin, FileIn, DemoLogs, Filter, Route, Sample, Dedupe, Reduce, Host, Console, FileOut, Blackhole}
 use Rattle.vx_reading.specs.Components.{Part, parts, kind_of}
 use Rattle.vx_reading.specs.Judging.{Pair, pairs_in, items_in, whole_in, path_spelled}
-use Rattle.vx_reading.specs.Options.{most_length, most_whole, most_keys, most_period, most_print_interval, most_batch, most_seconds}
+use Rattle.vx_plan.specs.declared.class.Class.TheVariants.{Source, Transform, Sink}
+use Rattle.vx_reading.specs.Options.{kind_class, most_length, most_whole, most_keys, most_period, most_print_interval, most_batch, most_seconds}
 use Rattle.vx_reading.specs.Stages.{buffer_of}
 use Rattle.vx_reading.specs.Strategies.{how_named}
 
@@ -40,9 +41,13 @@ text_or other (Some text) = text
 abbrev pub text_at : ByteString → Data → Option ByteString
 text_at name value = option_and_then as_str (get name value)
 
--- the text under a name of a table that stands under another name
+-- the value under a name of a table that stands under another name
+abbrev pub value_within : ByteString → ByteString → Data → Option Data
+value_within group name value = option_and_then (get name) (get group value)
+
+-- the text there
 abbrev pub text_within : ByteString → ByteString → Data → Option ByteString
-text_within group name value = option_and_then (text_at name) (get group value)
+text_within group name value = option_and_then as_str (value_within group name value)
 
 -- the truth under a name of a table
 abbrev pub truth_at : ByteString → Data → Option Bool
@@ -67,6 +72,17 @@ global_of root = record {
   acknowledgements = acknowledgements_of false root;
 }
 
+-- the list that a value is, if it is there
+abbrev pub items_of : Option Data → Option Items
+items_of value = option_and_then as_array value
+
+-- the list under a name of a table, and under a name of a table that stands under another name
+abbrev pub list_at : ByteString → Data → Option Items
+list_at name value = items_of (get name value)
+
+abbrev pub list_within : ByteString → ByteString → Data → Option Items
+list_within group name value = items_of (value_within group name value)
+
 -- the texts among some values
 abbrev pub text_of : Data → List ByteString
 text_of value = elim (as_str value) [ None ↦ [] | Some text ↦ text ∷ [] ]
@@ -77,20 +93,12 @@ texts_of (Some items) = flat_map text_of (items_in items)
 
 -- the texts of the list under a name of a table
 abbrev pub texts_at : ByteString → Data → List ByteString
-texts_at name value = texts_of (option_and_then as_array (get name value))
-
--- the inputs of a component
-abbrev pub inputs_of : Data → List ByteString
-inputs_of value = texts_at (codes "inputs") value
+texts_at name value = texts_of (list_at name value)
 
 -- where a console writes: to standard output where it doesn't say
 abbrev pub target_named : Option ByteString → ConsoleTarget
 target_named None = Stdout
 target_named (Some text) = if same_text text (codes "stderr") then Stderr else Stdout
-
--- the length of the longest line that a source takes, under a name of its table: 102,400 bytes where it doesn't say
-abbrev pub length_at : ByteString → Data → ℕ
-length_at name value = unwrap_or (option_and_then (whole_in 1 most_length) (get name value)) 102400
 
 -- how a source makes an event of a line: the line is the message where it doesn't say
 abbrev pub decoding_named : Option ByteString → Decoding
@@ -135,13 +143,24 @@ ways_of value = elim (get (codes "route") value) [ None ↦ [] | Some inner ↦ 
 abbrev pub is_rerouted : Data → Bool
 is_rerouted value = unwrap_or (truth_at (codes "reroute_unmatched") value) true
 
--- the whole number between two under a name of a table; where there is none, another
+-- the whole number between two that a value is; where it is none or isn't there, another
+abbrev pub whole_or : ℕ → ℕ → ℕ → Option Data → ℕ
+whole_or least most otherwise value = unwrap_or (option_and_then (whole_in least most) value) otherwise
+
+-- the same under a name of a table, and under a name of a table that stands under another name
 abbrev pub whole_at : ByteString → ℕ → ℕ → ℕ → Data → ℕ
-whole_at name least most otherwise value = unwrap_or (option_and_then (whole_in least most) (get name value)) otherwise
+whole_at name least most otherwise value = whole_or least most otherwise (get name value)
+
+abbrev pub whole_within : ByteString → ByteString → ℕ → ℕ → ℕ → Data → ℕ
+whole_within group name least most otherwise value = whole_or least most otherwise (value_within group name value)
 
 -- whether numbers stand before the lines of a source: they don't where it doesn't say
 abbrev pub is_numbered : Data → Bool
 is_numbered value = unwrap_or (truth_at (codes "sequence") value) false
+
+-- the length of the longest line that a source takes, under a name of its table: 102,400 bytes where it doesn't say
+abbrev pub length_at : ByteString → Data → ℕ
+length_at name value = whole_at name 1 most_length 102400 value
 
 -- what the lines of a source are made of: where it doesn't say, there are as many as there may be, and the seed is 0
 abbrev pub demo_of : Data → DemoSettings
@@ -156,11 +175,6 @@ demo_of value = record {
 abbrev pub interval_of : Data → ℕ
 interval_of value = whole_at (codes "interval") 0 most_seconds 1 value
 
--- the whole number between two under a name of a table that stands under another name; where there is none, another
-abbrev pub whole_within : ByteString → ByteString → ℕ → ℕ → ℕ → Data → ℕ
-whole_within group name least most otherwise value =
-    unwrap_or (option_and_then (λ (inner : Data). option_and_then (whole_in least most) (get name inner)) (get group value)) otherwise
-
 -- of how many events a sample passes one; it has to say
 abbrev pub rate_of : Data → ℕ
 rate_of value = whole_at (codes "rate") 1 most_whole 1 value
@@ -172,10 +186,6 @@ condition_given name value = option_map condition_of (get name value)
 -- the path that a value is
 abbrev pub path_in : Data → List (List ByteString)
 path_in value = elim (option_and_then path_spelled (as_str value)) [ None ↦ [] | Some names ↦ names ∷ [] ]
-
--- the list under a name of a table that stands under another name
-abbrev pub list_within : ByteString → ByteString → Data → Option Items
-list_within group name value = option_and_then (λ (inner : Data). option_and_then as_array (get name inner)) (get group value)
 
 -- the paths of the values by which events repeat each other where a dedupe says neither
 abbrev pub default_paths : List (List ByteString)
@@ -205,7 +215,7 @@ paths_of (Some items) = flat_map path_in (items_in items)
 
 -- the paths of the values that tell the groups of a reduce apart: none where it doesn't say
 abbrev pub group_by_of : Data → List (List ByteString)
-group_by_of value = paths_of (option_and_then as_array (get (codes "group_by") value))
+group_by_of value = paths_of (list_at (codes "group_by") value)
 
 -- how many milliseconds behind its last event a group is put out: 30,000 where a reduce doesn't say
 abbrev pub expire_of : Data → ℕ
@@ -278,18 +288,8 @@ settings_of global value Blackhole =
 
 -- the inputs of a component of a type; a source has none
 abbrev pub inputs_for : Kind → Data → List ByteString
-inputs_for Stdin value = []
-inputs_for FileIn value = []
-inputs_for DemoLogs value = []
-inputs_for Filter value = inputs_of value
-inputs_for Route value = inputs_of value
-inputs_for Sample value = inputs_of value
-inputs_for Dedupe value = inputs_of value
-inputs_for Reduce value = inputs_of value
-inputs_for Host value = inputs_of value
-inputs_for Console value = inputs_of value
-inputs_for FileOut value = inputs_of value
-inputs_for Blackhole value = inputs_of value
+inputs_for kind value =
+    elim (kind_class kind) [ Source ↦ [] | Transform ↦ texts_at (codes "inputs") value | Sink ↦ texts_at (codes "inputs") value ]
 
 -- the component of a type
 abbrev pub component : Global → Part → Kind → Component

@@ -13,7 +13,7 @@ use Rattle.vx_graph.specs.Faults.{IsAccepted, IsFault}
 use Rattle.vx_graph.specs.Order.{in_order}
 use Rattle.vx_plan.specs.declared.plan.Plan.{Plan}
 use Rattle.vx_reading.specs.declared.plan_fault.PlanFault.{PlanFault}
-use Rattle.vx_reading.specs.declared.plan_fault.PlanFault.TheVariants.{MissingVariable, NotToml, UnknownKind, UnknownOption, MissingOption, BadValue, TooMany, Graph, WantOfMemory}
+use Rattle.vx_reading.specs.declared.plan_fault.PlanFault.TheVariants.{MissingVariable, NotToml, Graph, WantOfMemory}
 use Rattle.vx_reading.specs.Conditions.{all_conditions, RefusesRightly, all_diagnostics}
 use Rattle.vx_reading.specs.Diagnostics.{HasFault}
 use Rattle.vx_reading.specs.Plans.{plan_of, nodes_of}
@@ -35,13 +35,9 @@ abbrev pub IsJudged : (ByteString → Bool) → Data → Result Plan PlanFault �
 IsJudged refuses root (Ok plan) = IsPlanOf refuses root plan
 IsJudged refuses root (Err (MissingVariable name at)) = ⊥
 IsJudged refuses root (Err NotToml) = ⊥
-IsJudged refuses root (Err (UnknownKind path)) = HasFault (all_diagnostics refuses root) (UnknownKind path)
-IsJudged refuses root (Err (UnknownOption path)) = HasFault (all_diagnostics refuses root) (UnknownOption path)
-IsJudged refuses root (Err (MissingOption path)) = HasFault (all_diagnostics refuses root) (MissingOption path)
-IsJudged refuses root (Err (BadValue path)) = HasFault (all_diagnostics refuses root) (BadValue path)
-IsJudged refuses root (Err (TooMany path found limit)) = HasFault (all_diagnostics refuses root) (TooMany path found limit)
 IsJudged refuses root (Err (Graph fault)) = IsGraphFaultOf refuses root fault
 IsJudged refuses root (Err WantOfMemory) = Unit {0}
+IsJudged refuses root (Err fault) = HasFault (all_diagnostics refuses root) fault
 
 -- what is answered, where each condition of the document is refused that is none, and none that is one, but for a pattern that
 -- `regex` may refuse or take; where no memory was found not each was read
@@ -76,16 +72,10 @@ pub record IsDocumentJudged (refuses : ByteString → Bool) (environment : List 
 
 -- what is answered of a text
 abbrev pub IsTextRead : (ByteString → Bool) → List Variable → ByteString → Result Plan PlanFault → Type 0
-IsTextRead refuses environment text (Ok plan) = IsDocumentJudged refuses environment text (Ok plan)
 IsTextRead refuses environment text (Err (MissingVariable name at)) = LacksVariable environment text name at
 IsTextRead refuses environment text (Err NotToml) = IsNoDocument environment text
-IsTextRead refuses environment text (Err (UnknownKind path)) = IsDocumentJudged refuses environment text (Err (UnknownKind path))
-IsTextRead refuses environment text (Err (UnknownOption path)) = IsDocumentJudged refuses environment text (Err (UnknownOption path))
-IsTextRead refuses environment text (Err (MissingOption path)) = IsDocumentJudged refuses environment text (Err (MissingOption path))
-IsTextRead refuses environment text (Err (BadValue path)) = IsDocumentJudged refuses environment text (Err (BadValue path))
-IsTextRead refuses environment text (Err (TooMany path found limit)) = IsDocumentJudged refuses environment text (Err (TooMany path found limit))
-IsTextRead refuses environment text (Err (Graph fault)) = IsDocumentJudged refuses environment text (Err (Graph fault))
 IsTextRead refuses environment text (Err WantOfMemory) = Unit {0}
+IsTextRead refuses environment text answer = IsDocumentJudged refuses environment text answer
 
 -- what is answered of bytes that are no text
 abbrev pub IsNoText : Result Plan PlanFault → Type 0

@@ -6,11 +6,11 @@ use Rattle.toml.specs.Data.{Data, get, as_str}
 use Rattle.vx_plan.specs.declared.stage.Stage.{Stage}
 use Rattle.vx_plan.specs.declared.when_full.WhenFull.{WhenFull}
 use Rattle.vx_plan.specs.declared.when_full.WhenFull.TheVariants.{Block, DropNewest, Overflow}
+use Rattle.vx_plan.specs.declared.class.Class.TheVariants.{Source, Transform, Sink}
 use Rattle.vx_reading.specs.declared.kind.Kind.{Kind}
-use Rattle.vx_reading.specs.declared.kind.Kind.TheVariants.{Stdin, FileIn, DemoLogs, Filter, Route, Sample, Dedupe, Reduce, Host, Console, FileOut, Blackhole}
 use Rattle.vx_reading.specs.Components.{Part, kind_of}
 use Rattle.vx_reading.specs.Judging.{whole_in, stages_in}
-use Rattle.vx_reading.specs.Options.{most_capacity}
+use Rattle.vx_reading.specs.Options.{kind_class, most_capacity}
 
 -- the stages that the table of a sink gives, in order
 abbrev pub stages_of : Data → List Data
@@ -18,18 +18,7 @@ stages_of value = elim (get (codes "buffer") value) [ None ↦ [] | Some inner �
 
 -- the same of a component of a type; one that is no sink gives none
 abbrev pub stages_for : Kind → Data → List Data
-stages_for Stdin value = []
-stages_for FileIn value = []
-stages_for DemoLogs value = []
-stages_for Filter value = []
-stages_for Route value = []
-stages_for Sample value = []
-stages_for Dedupe value = []
-stages_for Reduce value = []
-stages_for Host value = []
-stages_for Console value = stages_of value
-stages_for FileOut value = stages_of value
-stages_for Blackhole value = stages_of value
+stages_for kind value = elim (kind_class kind) [ Source ↦ [] | Transform ↦ [] | Sink ↦ stages_of value ]
 
 -- for how many events a stage has room: 500 where it says no number that it may
 abbrev pub capacity_at : Data → ℕ
@@ -73,18 +62,7 @@ capacity_in stages = sum_by (λ (s : Stage). s.max_events) stages
 
 -- the same of the buffer of a component of a type; only those of sinks count
 abbrev pub room_for : Kind → Data → ℕ
-room_for Stdin value = 0
-room_for FileIn value = 0
-room_for DemoLogs value = 0
-room_for Filter value = 0
-room_for Route value = 0
-room_for Sample value = 0
-room_for Dedupe value = 0
-room_for Reduce value = 0
-room_for Host value = 0
-room_for Console value = capacity_in (buffer_of value)
-room_for FileOut value = capacity_in (buffer_of value)
-room_for Blackhole value = capacity_in (buffer_of value)
+room_for kind value = elim (kind_class kind) [ Source ↦ 0 | Transform ↦ 0 | Sink ↦ capacity_in (buffer_of value) ]
 
 abbrev pub room_of : Part → ℕ
 room_of part = elim (kind_of part) [ None ↦ 0 | Some kind ↦ room_for kind part.value ]

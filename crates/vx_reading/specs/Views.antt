@@ -8,13 +8,15 @@ use Rattle.vx_reading.specs.declared.pair.Pair as pair
 use Rattle.vx_reading.specs.declared.part.Part as part
 use Rattle.vx_reading.specs.declared.place.Place as place
 use Rattle.vx_reading.specs.declared.place.Place.TheVariants as places
+use Rattle.vx_reading.specs.declared.placed.Placed as placed
 use Rattle.vx_reading.specs.declared.row.Row as row
 use Rattle.vx_reading.specs.declared.shape.Shape as shape
 use Rattle.vx_reading.specs.declared.shape.Shape.TheVariants as shapes
 use Rattle.vx_reading.specs.Components.{Part}
+use Rattle.vx_reading.specs.Conditions.{Placed}
 use Rattle.vx_reading.specs.Diagnostics.{Owner}
 use Rattle.vx_reading.specs.Judging.{Given, Pair}
-use Rattle.vx_reading.specs.Options.{Place, Alone, Within, Either, Each, Any, Shape, Truth, AnyText, OneOf, Texts, Whole, Condition, Stages, Lines, OneFile, FixedText, Paths, Names, Row, Exclusion}
+use Rattle.vx_reading.specs.Options.{Place, Alone, Within, Either, Each, Any, Shape, Truth, AnyText, OneOf, Texts, Whole, Condition, Stages, ListOf, OneFile, FixedText, Row, Exclusion}
 
 abbrev pub place_view : place.Place → Place
 place_view (places.Alone name) = Alone name.now
@@ -31,11 +33,9 @@ shape_view (shapes.Texts most) = Texts most
 shape_view (shapes.Whole least most) = Whole least most
 shape_view shapes.Condition = Condition
 shape_view (shapes.Stages most) = Stages most
-shape_view shapes.Lines = Lines
+shape_view (shapes.ListOf of least) = ListOf of least
 shape_view shapes.OneFile = OneFile
 shape_view shapes.FixedText = FixedText
-shape_view (shapes.Paths least) = Paths least
-shape_view shapes.Names = Names
 
 abbrev pub row_view : row.Row → Row
 row_view r = record { place = place_view r.place; shape = shape_view r.shape; required = r.required }
@@ -51,6 +51,12 @@ given_view g = record { place = place_view g.place; value = view g.value.now }
 
 abbrev pub part_view : part.Part → Part
 part_view p = record { class = p.class; name = p.name.now; value = view p.value.now }
+
+abbrev pub placed_view : placed.Placed → Placed
+placed_view p = record { place = place_view p.place; text = p.text.now }
+
+abbrev pub all_placed_view : List placed.Placed → List Placed
+all_placed_view all = map placed_view all
 
 abbrev pub rows_view : List row.Row → List Row
 rows_view rows = map row_view rows

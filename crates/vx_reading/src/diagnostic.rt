@@ -1,8 +1,12 @@
 ghost use Rattle.std.specs.Prelude.{◌≡◌, ◌++◌, ◌∷◌, [], OnOk};
-ghost use Rattle.vx_reading.specs.Diagnostics.{found};
-ghost use Rattle.vx_reading.specs.Views.{owner_view};
+ghost use Rattle.vx_reading.specs.Diagnostics.{found, at_option};
+ghost use Rattle.vx_reading.specs.Views.{owner_view, place_view};
 
+use crate::adding;
 use crate::owner::Owner;
+use crate::paths::option_path;
+use crate::place::Place;
+use crate::spot::Spot;
 use crate::trouble::Trouble;
 use std::alloc::Global;
 use vx_value::{ItemList, Text, WantOfMemory};
@@ -39,8 +43,24 @@ pub(crate) fn push(
         path,
         trouble,
     };
-    match diagnostics.push(diagnostic) {
-        Ok(()) => Ok(()),
-        Err(_) => Err(WantOfMemory),
-    }
+    adding::push(diagnostics, diagnostic)
+}
+
+/// Adds the fault of an option, if something is wrong with it.
+pub(crate) fn push_if(
+    alloc: Global,
+    diagnostics: &mut DiagnosticList,
+    spot: Spot<'_>,
+    place: Place<'_>,
+    trouble: Option<Trouble>,
+) -> Result<(), WantOfMemory>
+    ensures { OnOk result
+        (diagnostics.new ≡ diagnostics.old
+        ++ at_option (owner_view spot.entry.owner) spot.entry.lead.now (place_view place.entry) trouble) }
+{
+    let Some(trouble) = trouble else {
+        return Ok(());
+    };
+    let path = option_path(alloc, spot.lead, place)?;
+    push(alloc, diagnostics, spot.owner, path, trouble)
 }

@@ -1,39 +1,28 @@
-ghost use Rattle.std.specs.Prelude.{◌≡◌, ◌++◌, Some, OnOk};
+ghost use Rattle.std.specs.Prelude.{◌≡◌, ◌++◌, OnOk};
 ghost use Rattle.std.specs.Option.{option_map};
 ghost use Rattle.toml.specs.View.{view};
 ghost use Rattle.vx_reading.specs.Components.{type_in};
-ghost use Rattle.vx_reading.specs.Diagnostics.{owner_of, part_diagnostic, part_lead as part_lead_of, buffer_lead as buffer_lead_of, later_diagnostics, own_diagnostics, buffer_diagnostics, kind_diagnostics, text_diagnostics, type_diagnostics, part_diagnostics};
+ghost use Rattle.vx_reading.specs.Diagnostics.{part_diagnostic, at_type, own_diagnostics, kind_diagnostics, type_diagnostics, part_diagnostics};
 ghost use Rattle.vx_reading.specs.Judging.{given, pairs_in as pairs_in_view};
 ghost use Rattle.vx_reading.specs.Options.{rows_of as rows_for};
-ghost use Rattle.vx_reading.specs.Stages.{stages_for as stages_given};
-ghost use Rattle.vx_reading.specs.Views.{owner_view, part_view};
+ghost use Rattle.vx_reading.specs.Views.{part_view};
 
-use crate::diagnostic::{DiagnosticList, push};
-use crate::diagnostic_options::{push_excluded, push_options};
+use crate::diagnostic::{DiagnosticList, push, push_if};
+use crate::diagnostic_options::{excluded, push_options};
 use crate::diagnostic_stages::push_stages;
-use crate::given::{given_in, is_table};
+use crate::given::{given_of, is_table};
+use crate::judging::bad_unless;
 use crate::kind::Kind;
-use crate::options::{exclusion_of, kind_named, rows_of, section_number};
-use crate::owner::Owner;
-use crate::pair::pairs_in;
-use crate::part::{Part, is_later_stdin, is_taken};
+use crate::options::{exclusion_of, kind_named, rows_of};
+use crate::part::{Part, is_later_stdin, is_taken, owner_of};
 use crate::paths::{buffer_lead, part_lead, part_path, type_path};
+use crate::spot::Spot;
 use crate::stages::stages_for;
 use crate::texts::is_name;
 use crate::trouble::Trouble;
 use std::alloc::Global;
 use toml::Value;
 use vx_value::WantOfMemory;
-
-/// To whom the faults of a component belong.
-fn owner_of<'a>(part: Part<'a>) -> Owner<'a>
-    ensures { owner_view result ≡ owner_of (part_view part.entry) }
-{
-    Owner {
-        section: section_number(part.class),
-        name: part.name,
-    }
-}
 
 /// Adds the fault of a component itself: it is no table, its name is malformed, or an earlier table has it.
 fn push_part_itself(
@@ -52,23 +41,22 @@ fn push_part_itself(
     push(alloc, diagnostics, owner_of(part), path, Trouble::BadValue)
 }
 
-/// Adds the fault of a component that reads standard input after another that does.
-fn push_later(
+/// Adds the fault of a component's type, if something is wrong with it.
+fn push_type(
     alloc: Global,
     diagnostics: &mut DiagnosticList,
-    first: Option<&str>,
     part: Part<'_>,
+    trouble: Option<Trouble>,
 ) -> Result<(), WantOfMemory>
     ensures { OnOk result
         (diagnostics.new ≡ diagnostics.old
-        ++ later_diagnostics (option_map (λ name. name.now) first.entry) (part_view part.entry)) }
+        ++ at_type (part_view part.entry) trouble) }
 {
-    if is_later_stdin(first, part) {
-        let path = type_path(alloc, part)?;
-        push(alloc, diagnostics, owner_of(part), path, Trouble::BadValue)
-    } else {
-        Ok(())
-    }
+    let Some(trouble) = trouble else {
+        return Ok(());
+    };
+    let path = type_path(alloc, part)?;
+    push(alloc, diagnostics, owner_of(part), path, trouble)
 }
 
 /// Adds the faults of the options of a component of a type.
@@ -84,53 +72,21 @@ fn push_own(
         (given (rows_for kind) (pairs_in_view (part_view part.entry).value))) }
 {
     let rows = rows_of(kind);
-    let pairs = pairs_in(alloc, part.value)?;
-    let all = given_in(alloc, rows, pairs.as_slice())?;
+    let all = given_of(alloc, rows, part.value)?;
     let lead = part_lead(alloc, part)?;
-    push_options(
-        alloc,
-        diagnostics,
-        owner_of(part),
-        lead.as_str(),
-        rows,
-        all.as_slice(),
-    )?;
-    match exclusion_of(kind) {
-        Some(exclusion) => push_excluded(
-            alloc,
-            diagnostics,
-            owner_of(part),
-            lead.as_str(),
-            all.as_slice(),
-            exclusion,
-        ),
-        None => Ok(()),
-    }
+    let spot = Spot {
+        owner: owner_of(part),
+        lead: lead.as_str(),
+    };
+    push_options(alloc, diagnostics, spot, rows, all.as_slice())?;
+    let Some(exclusion) = exclusion_of(kind) else {
+        return Ok(());
+    };
+    let trouble = excluded(all.as_slice(), exclusion);
+    push_if(alloc, diagnostics, spot, exclusion.later, trouble)
 }
 
-/// Adds the faults of the stages of the buffer of a component of a type.
-fn push_buffer(
-    alloc: Global,
-    diagnostics: &mut DiagnosticList,
-    part: Part<'_>,
-    kind: Kind,
-) -> Result<(), WantOfMemory>
-    ensures { OnOk result
-        (diagnostics.new ≡ diagnostics.old
-        ++ buffer_diagnostics (owner_of (part_view part.entry)) (buffer_lead_of (part_view part.entry))
-        (stages_given kind (part_view part.entry).value)) }
-{
-    let lead = buffer_lead(alloc, part)?;
-    push_stages(
-        alloc,
-        diagnostics,
-        owner_of(part),
-        lead.as_str(),
-        stages_for(kind, part.value),
-    )
-}
-
-/// Adds the faults of a component whose type is known.
+/// Adds the faults of a component whose type is known: of the type itself, of its options, and of the stages of its buffer.
 fn push_kind(
     alloc: Global,
     diagnostics: &mut DiagnosticList,
@@ -142,40 +98,18 @@ fn push_kind(
         (diagnostics.new ≡ diagnostics.old
         ++ kind_diagnostics (option_map (λ name. name.now) first.entry) (part_view part.entry) kind) }
 {
-    push_later(alloc, diagnostics, first, part)?;
+    let later = bad_unless(!is_later_stdin(first, part));
+    push_type(alloc, diagnostics, part, later)?;
     push_own(alloc, diagnostics, part, kind)?;
-    push_buffer(alloc, diagnostics, part, kind)
+    let lead = buffer_lead(alloc, part)?;
+    let spot = Spot {
+        owner: owner_of(part),
+        lead: lead.as_str(),
+    };
+    push_stages(alloc, diagnostics, spot, stages_for(kind, part.value))
 }
 
-/// Adds the faults of a component by what its type is called.
-fn push_named(
-    alloc: Global,
-    diagnostics: &mut DiagnosticList,
-    first: Option<&str>,
-    part: Part<'_>,
-    text: &str,
-) -> Result<(), WantOfMemory>
-    ensures { OnOk result
-        (diagnostics.new ≡ diagnostics.old
-        ++ text_diagnostics (option_map (λ name. name.now) first.entry) (part_view part.entry)
-        (Some text.now)) }
-{
-    match kind_named(part.class, text) {
-        Some(kind) => push_kind(alloc, diagnostics, first, part, kind),
-        None => {
-            let path = type_path(alloc, part)?;
-            push(
-                alloc,
-                diagnostics,
-                owner_of(part),
-                path,
-                Trouble::UnknownKind,
-            )
-        }
-    }
-}
-
-/// Adds the faults of a component by its type, which has to be a text.
+/// Adds the faults of a component by its type, which has to be a text that names one.
 fn push_typed(
     alloc: Global,
     diagnostics: &mut DiagnosticList,
@@ -188,21 +122,14 @@ fn push_typed(
         (type_in (part_view part.entry).value)) }
 {
     let Some(value) = part.value.get("type") else {
-        let path = type_path(alloc, part)?;
-        return push(
-            alloc,
-            diagnostics,
-            owner_of(part),
-            path,
-            Trouble::MissingOption,
-        );
+        return push_type(alloc, diagnostics, part, Some(Trouble::MissingOption));
     };
-    match value.as_str() {
-        Some(text) => push_named(alloc, diagnostics, first, part, text),
-        None => {
-            let path = type_path(alloc, part)?;
-            push(alloc, diagnostics, owner_of(part), path, Trouble::BadValue)
-        }
+    let Some(text) = value.as_str() else {
+        return push_type(alloc, diagnostics, part, Some(Trouble::BadValue));
+    };
+    match kind_named(part.class, text) {
+        Some(kind) => push_kind(alloc, diagnostics, first, part, kind),
+        None => push_type(alloc, diagnostics, part, Some(Trouble::UnknownKind)),
     }
 }
 

@@ -5,76 +5,60 @@ ghost use Rattle.vx_reading.specs.Diagnostics.{misplaced, stage_diagnostics, buf
 ghost use Rattle.vx_reading.specs.Judging.{items_in};
 ghost use Rattle.vx_reading.specs.Views.{owner_view};
 
-use crate::diagnostic::{DiagnosticList, push};
+use crate::diagnostic::{DiagnosticList, push_if};
 use crate::diagnostic_options::push_options;
-use crate::given::given_in;
+use crate::given::given_of;
+use crate::judging::bad_unless;
 use crate::options::stage_rows;
-use crate::owner::Owner;
-use crate::pair::pairs_in;
-use crate::paths::option_path;
 use crate::place::Place;
+use crate::spot::Spot;
 use crate::stages::{is_misplaced, when_full_of};
 use crate::trouble::Trouble;
 use std::alloc::Global;
 use toml::Value;
 use vx_value::WantOfMemory;
 
-/// Adds the fault of a stage that stands where it may not, by whether it is the last.
-fn push_misplaced(
-    alloc: Global,
-    diagnostics: &mut DiagnosticList,
-    owner: Owner<'_>,
-    lead: &str,
-    last: bool,
-    stage: &Value,
-) -> Result<(), WantOfMemory>
-    ensures { OnOk result
-        (diagnostics.new ≡ diagnostics.old
-        ++ misplaced (owner_view owner.entry) lead.now last (view stage.now)) }
+/// What is wrong with the place of a stage, by whether it is the last.
+fn misplaced(last: bool, stage: &Value) -> Option<Trouble>
+    ensures { result ≡ misplaced last (view stage.now) }
 {
-    if is_misplaced(last, when_full_of(stage)) {
-        let path = option_path(alloc, lead, Place::Alone("when_full"))?;
-        push(alloc, diagnostics, owner, path, Trouble::BadValue)
-    } else {
-        Ok(())
-    }
+    bad_unless(!is_misplaced(last, when_full_of(stage)))
 }
 
 /// Adds the faults of a stage.
 fn push_stage(
     alloc: Global,
     diagnostics: &mut DiagnosticList,
-    owner: Owner<'_>,
-    lead: &str,
+    spot: Spot<'_>,
     last: bool,
     stage: &Value,
 ) -> Result<(), WantOfMemory>
     ensures { OnOk result
         (diagnostics.new ≡ diagnostics.old
-        ++ stage_diagnostics (owner_view owner.entry) lead.now last (view stage.now)) }
+        ++ stage_diagnostics (owner_view spot.entry.owner) spot.entry.lead.now last (view stage.now)) }
 {
     let rows = stage_rows();
-    let pairs = pairs_in(alloc, stage)?;
-    let all = given_in(alloc, rows, pairs.as_slice())?;
-    push_options(alloc, diagnostics, owner, lead, rows, all.as_slice())?;
-    push_misplaced(alloc, diagnostics, owner, lead, last, stage)
+    let all = given_of(alloc, rows, stage)?;
+    push_options(alloc, diagnostics, spot, rows, all.as_slice())?;
+    let trouble = misplaced(last, stage);
+    push_if(alloc, diagnostics, spot, Place::Alone("when_full"), trouble)
 }
 
 /// Adds the faults of the stages of a buffer.
 pub(crate) fn push_stages(
     alloc: Global,
     diagnostics: &mut DiagnosticList,
-    owner: Owner<'_>,
-    lead: &str,
+    spot: Spot<'_>,
     stages: &[Value],
 ) -> Result<(), WantOfMemory>
     ensures { OnOk result
         (diagnostics.new ≡ diagnostics.old
-        ++ buffer_diagnostics (owner_view owner.entry) lead.now (items_in (items_view stages.now))) }
+        ++ buffer_diagnostics (owner_view spot.entry.owner) spot.entry.lead.now
+        (items_in (items_view stages.now))) }
 {
     for (i, stage) in stages.iter().enumerate() {
         let last = i + 1 == stages.len();
-        push_stage(alloc, diagnostics, owner, lead, last, stage)?;
+        push_stage(alloc, diagnostics, spot, last, stage)?;
     }
     Ok(())
 }

@@ -3,7 +3,7 @@ ghost use Rattle.std.specs.Option.{option_map};
 ghost use Rattle.std.specs.List.{flat_map};
 ghost use Rattle.toml.specs.View.{view};
 ghost use Rattle.vx_reading.specs.Components.{parts, first_stdin};
-ghost use Rattle.vx_reading.specs.Diagnostics.{is_section, global_given, section_diagnostics, count_diagnostics, capacity_diagnostics, part_diagnostics, diagnostics, global_diagnostics, all_section_diagnostics};
+ghost use Rattle.vx_reading.specs.Diagnostics.{is_section, global_given, at_table, section_diagnostics, part_diagnostics, diagnostics, global_diagnostics, all_section_diagnostics};
 ghost use Rattle.vx_reading.specs.Judging.{Pair as SpecPair};
 ghost use Rattle.vx_reading.specs.Views.{pairs_view, givens_view, parts_view};
 
@@ -11,10 +11,12 @@ use crate::diagnostic::{DiagnosticList, push};
 use crate::diagnostic_options::push_options;
 use crate::diagnostic_parts::push_part;
 use crate::given::{Given, given_in, is_table};
+use crate::judging::{bad_unless, too_many};
 use crate::options::{MOST_CAPACITY, global_rows, is_section, section_name, section_number};
 use crate::owner::Owner;
 use crate::pair::{Pair, pairs_in};
 use crate::part::{Part, first_stdin};
+use crate::spot::Spot;
 use crate::stages::capacity_of_all;
 use crate::trouble::Trouble;
 use std::alloc::Global;
@@ -23,7 +25,7 @@ use vx_plan::Class;
 use vx_value::{Text, WantOfMemory};
 
 /// How many components a configuration may have.
-const MOST_PARTS: usize = 256;
+const MOST_PARTS: u64 = 256;
 
 /// The members of a document but the three tables of components.
 fn global_pairs<'a>(alloc: Global, pairs: &[Pair<'a>]) -> Result<Vec<Pair<'a>>, WantOfMemory>
@@ -34,10 +36,7 @@ fn global_pairs<'a>(alloc: Global, pairs: &[Pair<'a>]) -> Result<Vec<Pair<'a>>, 
     let mut kept = Vec::new(alloc);
     for pair in pairs {
         if !is_section(pair.name) {
-            match kept.push(*pair) {
-                Ok(()) => {}
-                Err(_) => return Err(WantOfMemory),
-            }
+            kept.push(*pair)?;
         }
     }
     Ok(kept)
@@ -65,63 +64,26 @@ fn push_global(
         section: 0,
         name: "",
     };
-    push_options(alloc, diagnostics, owner, "", global_rows(), all.as_slice())
+    let spot = Spot { owner, lead: "" };
+    push_options(alloc, diagnostics, spot, global_rows(), all.as_slice())
 }
 
-/// Adds the fault of too many components.
-fn push_count(
+/// Adds the fault of the table of a class, if something is wrong with it.
+fn push_table(
     alloc: Global,
     diagnostics: &mut DiagnosticList,
-    root: &Value,
-    all: &[Part<'_>],
+    section: u8,
+    class: Class,
+    trouble: Option<Trouble>,
 ) -> Result<(), WantOfMemory>
-    requires { parts_view all.now ≡ parts (view root.now) }
-    ensures { OnOk result (diagnostics.new ≡ diagnostics.old ++ count_diagnostics (view root.now)) }
+    ensures { OnOk result (diagnostics.new ≡ diagnostics.old ++ at_table section class trouble) }
 {
-    if MOST_PARTS < all.len() {
-        let owner = Owner {
-            section: 0,
-            name: "",
-        };
-        let path = Text::copy_of(alloc, section_name(Class::Source))?;
-        let trouble = Trouble::TooMany {
-            found: all.len() as u64,
-            limit: MOST_PARTS as u64,
-        };
-        push(alloc, diagnostics, owner, path, trouble)
-    } else {
-        Ok(())
-    }
-}
-
-/// Adds the fault of stages of sinks that have too much room together.
-fn push_capacity(
-    alloc: Global,
-    diagnostics: &mut DiagnosticList,
-    root: &Value,
-    all: &[Part<'_>],
-) -> Result<(), WantOfMemory>
-    requires { parts_view all.now ≡ parts (view root.now) }
-    ensures { OnOk result (diagnostics.new ≡ diagnostics.old ++ capacity_diagnostics (view root.now)) }
-{
-    let found = capacity_of_all(alloc, all)?;
-    let limit = MOST_CAPACITY;
-    if limit < found {
-        let owner = Owner {
-            section: section_number(Class::Sink),
-            name: "",
-        };
-        let path = Text::copy_of(alloc, section_name(Class::Sink))?;
-        push(
-            alloc,
-            diagnostics,
-            owner,
-            path,
-            Trouble::TooMany { found, limit },
-        )
-    } else {
-        Ok(())
-    }
+    let Some(trouble) = trouble else {
+        return Ok(());
+    };
+    let owner = Owner { section, name: "" };
+    let path = Text::copy_of(alloc, section_name(class))?;
+    push(alloc, diagnostics, owner, path, trouble)
 }
 
 /// Adds the fault of the table of a class that is no table.
@@ -133,17 +95,11 @@ fn push_section(
 ) -> Result<(), WantOfMemory>
     ensures { OnOk result (diagnostics.new ≡ diagnostics.old ++ section_diagnostics (view root.now) class) }
 {
-    match root.get(section_name(class)) {
-        Some(table) if !is_table(table) => {
-            let owner = Owner {
-                section: section_number(class),
-                name: "",
-            };
-            let path = Text::copy_of(alloc, section_name(class))?;
-            push(alloc, diagnostics, owner, path, Trouble::BadValue)
-        }
-        _ => Ok(()),
-    }
+    let Some(table) = root.get(section_name(class)) else {
+        return Ok(());
+    };
+    let trouble = bad_unless(is_table(table));
+    push_table(alloc, diagnostics, section_number(class), class, trouble)
 }
 
 /// Adds the faults of the three tables themselves.
@@ -190,8 +146,16 @@ pub(crate) fn diagnostics(
 {
     let mut found = DiagnosticList::new(alloc);
     push_global(alloc, &mut found, root)?;
-    push_count(alloc, &mut found, root, all)?;
-    push_capacity(alloc, &mut found, root, all)?;
+    let count = too_many(all.len() as u64, MOST_PARTS);
+    push_table(alloc, &mut found, 0, Class::Source, count)?;
+    let room = too_many(capacity_of_all(alloc, all)?, MOST_CAPACITY);
+    push_table(
+        alloc,
+        &mut found,
+        section_number(Class::Sink),
+        Class::Sink,
+        room,
+    )?;
     push_sections(alloc, &mut found, root)?;
     push_parts(alloc, &mut found, root, all)?;
     Ok(found)

@@ -4,34 +4,24 @@ ghost use Rattle.std.specs.List.{flat_map};
 ghost use Rattle.std.specs.Option.{option_map};
 ghost use Rattle.toml.specs.View.{view, items_view};
 ghost use Rattle.vx_reading.specs.Judging.{items_in};
-ghost use Rattle.vx_reading.specs.Plans.{path_in, list_within, default_paths, matched, fields_of};
+ghost use Rattle.vx_reading.specs.Plans.{path_in, default_paths, matched, fields_of};
 
+use crate::adding::push;
 use crate::plans::texts_of;
 use crate::texts::path_spelled;
+use crate::values::list_within;
 use std::alloc::Global;
 use toml::Value;
 use vx_plan::{DedupeFields, PathList};
 use vx_value::{Path, Text, TextList, WantOfMemory};
-
-/// Adds a path.
-fn push(paths: &mut PathList, path: Path) -> Result<(), WantOfMemory>
-    ensures { OnOk result (paths.new ≡ paths.old ++ path ∷ []) }
-{
-    match paths.push(path) {
-        Ok(()) => Ok(()),
-        Err(_) => Err(WantOfMemory),
-    }
-}
 
 /// Adds the path of one name.
 fn push_name(alloc: Global, paths: &mut PathList, name: &str) -> Result<(), WantOfMemory>
     ensures { OnOk result (paths.new ≡ paths.old ++ (name.now ∷ []) ∷ []) }
 {
     let mut names = TextList::new(alloc);
-    match names.push(Text::copy_of(alloc, name)?) {
-        Ok(()) => push(paths, Path::of(names)),
-        Err(_) => Err(WantOfMemory),
-    }
+    push(&mut names, Text::copy_of(alloc, name)?)?;
+    push(paths, Path::of(names))
 }
 
 /// The paths where a configuration doesn't say which: `timestamp`, `host` and `message`.
@@ -67,19 +57,6 @@ pub(crate) fn paths_of(alloc: Global, values: &[Value]) -> Result<PathList, Want
         push_spelled(alloc, &mut paths, value)?;
     }
     Ok(paths)
-}
-
-/// The list under a name of a table that stands under another name.
-fn list_within<'a>(group: &str, name: &str, table: &'a Value) -> Option<&'a [Value]>
-    ensures { option_map (λ items. items_view items.now) result
-        ≡ list_within group.now name.now (view table.now) }
-{
-    let inner = table.get(group)?;
-    let value = inner.get(name)?;
-    match value.as_array() {
-        Some(values) => Some(values.as_slice()),
-        None => None,
-    }
 }
 
 /// The values at some paths, where a list says which, and else at those of a transform that doesn't say.

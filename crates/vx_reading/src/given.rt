@@ -1,6 +1,6 @@
-ghost use Rattle.std.specs.Prelude.{◌≡◌, ◌++◌, ◌∷◌, [], IfOk, OnOk, map};
+ghost use Rattle.std.specs.Prelude.{◌≡◌, ◌++◌, IfOk, OnOk, map};
 ghost use Rattle.toml.specs.View.{view};
-ghost use Rattle.vx_reading.specs.Judging.{is_group, is_table, given_by, given, is_given, count_given, is_within, within};
+ghost use Rattle.vx_reading.specs.Judging.{pairs_in as pairs_in_view, is_group, is_table, given_by, given, is_given, count_given, is_within, within};
 ghost use Rattle.vx_reading.specs.Options.{covers, fits_place, most_at};
 ghost use Rattle.vx_reading.specs.Views.{place_view, rows_view, pair_view, pairs_view, givens_view};
 
@@ -106,16 +106,6 @@ pub(crate) fn is_table(value: &Value) -> bool
     value.as_table().is_some()
 }
 
-/// Adds an option.
-fn push<'a>(all: &mut Vec<Given<'a>>, given: Given<'a>) -> Result<(), WantOfMemory>
-    ensures { OnOk result (all.new.items ≡ all.old.items ++ given.entry ∷ []) }
-{
-    match all.push(given) {
-        Ok(()) => Ok(()),
-        Err(_) => Err(WantOfMemory),
-    }
-}
-
 /// Adds what a table gives under a name.
 fn push_given<'a>(
     alloc: Global,
@@ -131,14 +121,11 @@ fn push_given<'a>(
         let inner = pairs_in(alloc, pair.value)?;
         push_within(all, pair.name, inner.as_slice())
     } else {
-        let place = Place::Alone(pair.name);
-        push(
-            all,
-            Given {
-                place,
-                value: pair.value,
-            },
-        )
+        all.push(Given {
+            place: Place::Alone(pair.name),
+            value: pair.value,
+        })?;
+        Ok(())
     }
 }
 
@@ -153,14 +140,10 @@ fn push_within<'a>(
         ++ map (within group.now) (pairs_view pairs.now)) }
 {
     for pair in pairs {
-        let place = Place::Within(group, pair.name);
-        push(
-            all,
-            Given {
-                place,
-                value: pair.value,
-            },
-        )?;
+        all.push(Given {
+            place: Place::Within(group, pair.name),
+            value: pair.value,
+        })?;
     }
     Ok(())
 }
@@ -179,6 +162,19 @@ pub(crate) fn given_in<'a>(
         push_given(alloc, &mut all, rows, *pair)?;
     }
     Ok(all)
+}
+
+/// What a value gives, where it is a table.
+pub(crate) fn given_of<'a>(
+    alloc: Global,
+    rows: &[Row],
+    value: &'a Value,
+) -> Result<Vec<Given<'a>>, WantOfMemory>
+    ensures { IfOk result
+        (λ all. givens_view all.items ≡ given (rows_view rows.now) (pairs_in_view (view value.now))) }
+{
+    let pairs = pairs_in(alloc, value)?;
+    given_in(alloc, rows, pairs.as_slice())
 }
 
 /// Whether the option of a place is given.

@@ -2,6 +2,7 @@ ghost use Rattle.std.specs.Prelude.{◌≡◌, ◌++◌, IfOk, OnOk, map};
 ghost use Rattle.vx_plan.specs.Components.{port_names};
 ghost use Rattle.vx_plan.specs.Graphs.{node_class, node_of, nodes_of};
 
+use crate::adding::push;
 use std::alloc::Global;
 use vx_graph::{Node, NodeList};
 use vx_plan::{Class, Component, Plan};
@@ -24,10 +25,7 @@ fn ports_of(alloc: Global, component: &Component) -> Result<TextList, WantOfMemo
 {
     let mut ports = TextList::new(alloc);
     for i in 0..component.ports() {
-        match ports.push(Text::copy_of(alloc, component.port_name(i))?) {
-            Ok(()) => {}
-            Err(_) => return Err(WantOfMemory),
-        }
+        push(&mut ports, Text::copy_of(alloc, component.port_name(i))?)?;
     }
     Ok(ports)
 }
@@ -50,10 +48,7 @@ pub(crate) fn nodes_of(alloc: Global, plan: &Plan) -> Result<NodeList, WantOfMem
 {
     let mut nodes = NodeList::new(alloc);
     for component in plan.components.as_slice() {
-        match nodes.push(node_of(alloc, component)?) {
-            Ok(()) => {}
-            Err(_) => return Err(WantOfMemory),
-        }
+        push(&mut nodes, node_of(alloc, component)?)?;
     }
     Ok(nodes)
 }

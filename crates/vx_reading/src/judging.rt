@@ -1,13 +1,13 @@
-ghost use Rattle.std.specs.Prelude.{◌≡◌, ◌≤◌, map, not, IfOk, IfSome, Some, None, if◌then◌else◌};
+ghost use Rattle.std.specs.Prelude.{◌≡◌, ◌≤◌, map, IfOk, IfSome};
 ghost use Rattle.std.specs.Option.{option_map};
 ghost use Rattle.std.specs.List.{list_any, list_all};
 ghost use Rattle.toml.specs.View.{view, items_view};
 ghost use Rattle.vx_value.specs.Texts.{same_text};
-ghost use Rattle.vx_reading.specs.Judging.{fits, fits_texts, fits_stages, stages_in, is_table as is_table_view, judged, items_in, is_truth, is_text, is_one_of, between, whole_in, row_at, is_vrl, names_vrl, has_text, is_line, are_lines, is_lines, is_file, are_one_file, is_one_file, is_fixed, is_path, are_paths, is_paths, is_names, judged_by};
-ghost use Rattle.vx_reading.specs.declared.trouble.Trouble.TheVariants.{BadValue};
+ghost use Rattle.vx_reading.specs.Judging.{fits, fits_list, fits_stages, stages_in, judged, items_in, is_truth, is_text, is_one_of, between, whole_in, row_at, is_vrl, names_vrl, has_text, is_line, is_file, is_single, is_one_file, is_fixed, is_path, is_item, is_list_of, bad_unless, too_many, judged_by};
 ghost use Rattle.vx_reading.specs.Views.{shape_view, rows_view, row_view, place_view, given_view};
 
 use crate::given::{Given, covers, fits_place, is_table};
+use crate::item::Item;
 use crate::place::Place;
 use crate::row::Row;
 use crate::shape::Shape;
@@ -48,34 +48,6 @@ fn is_among(texts: &[&str], text: &str) -> bool
 {
     for other in texts {
         if same_text(other, text) {
-            return true;
-        }
-    }
-    false
-}
-
-/// What is wrong with a list of texts, which may have so many; `None` exactly where nothing is.
-#[tactic(auto, using(crate::proofs::Lists::items_in_length))]
-fn fits_texts(most: usize, items: &[Value]) -> Option<Trouble>
-    ensures { result ≡ fits_texts most (items_in (items_view items.now)) }
-{
-    if has_other(items) {
-        return Some(Trouble::BadValue);
-    }
-    if most < items.len() {
-        let found = items.len() as u64;
-        let limit = most as u64;
-        return Some(Trouble::TooMany { found, limit });
-    }
-    None
-}
-
-/// Whether some value is no text.
-fn has_other(items: &[Value]) -> bool
-    ensures { result ≡ list_any (λ d. not (is_text d)) (items_in (items_view items.now)) }
-{
-    for item in items {
-        if !is_text(item) {
             return true;
         }
     }
@@ -145,70 +117,12 @@ pub(crate) fn stages_in(value: &Value) -> &[Value]
     }
 }
 
-/// What is wrong with stages, of which there may be so many; `None` exactly where nothing is.
-#[tactic(auto, using(crate::proofs::Lists::items_in_length))]
-fn fits_stages(most: usize, stages: &[Value]) -> Option<Trouble>
-    ensures { result ≡ fits_stages most (items_in (items_view stages.now)) }
-{
-    if stages.is_empty() || has_no_table(stages) {
-        return Some(Trouble::BadValue);
-    }
-    if most < stages.len() {
-        let found = stages.len() as u64;
-        let limit = most as u64;
-        return Some(Trouble::TooMany { found, limit });
-    }
-    None
-}
-
-/// Whether some value is no table.
-fn has_no_table(items: &[Value]) -> bool
-    ensures { result ≡ list_any (λ d. not (is_table_view d)) (items_in (items_view items.now)) }
-{
-    for item in items {
-        if !is_table(item) {
-            return true;
-        }
-    }
-    false
-}
-
 /// Whether a value is a text without a line feed.
 fn is_line(value: &Value) -> bool
     ensures { result ≡ is_line (view value.now) }
 {
     match value.as_str() {
         Some(text) => is_unbroken(text),
-        None => false,
-    }
-}
-
-/// Whether each of some values is a text without a line feed.
-fn has_lines(items: &[Value]) -> bool
-    ensures { result ≡ list_all is_line (items_in (items_view items.now)) }
-{
-    for item in items {
-        if !is_line(item) {
-            return false;
-        }
-    }
-    true
-}
-
-/// Whether there are some values, and each is a text without a line feed.
-#[tactic(auto, using(crate::proofs::Lists::no_items))]
-fn are_lines(items: &[Value]) -> bool
-    ensures { result ≡ are_lines (items_in (items_view items.now)) }
-{
-    !items.is_empty() && has_lines(items)
-}
-
-/// Whether a value is a list of such texts, one at least.
-fn is_lines(value: &Value) -> bool
-    ensures { result ≡ is_lines (view value.now) }
-{
-    match value.as_array() {
-        Some(items) => are_lines(items.as_slice()),
         None => false,
     }
 }
@@ -223,24 +137,14 @@ fn is_file(value: &Value) -> bool
     }
 }
 
-/// Whether each of some values is a text that is no pattern.
-fn has_files(items: &[Value]) -> bool
-    ensures { result ≡ list_all is_file (items_in (items_view items.now)) }
+/// Whether there is one value, and that is such a text.
+fn is_single(items: &[Value]) -> bool
+    ensures { result ≡ is_single (items_in (items_view items.now)) }
 {
-    for item in items {
-        if !is_file(item) {
-            return false;
-        }
+    match items {
+        [item] => is_file(item),
+        [] | [_, _, ..] => false,
     }
-    true
-}
-
-/// Whether there is one value, and that is a text that is no pattern.
-#[tactic(auto, using(crate::proofs::Lists::items_in_length))]
-fn are_one_file(items: &[Value]) -> bool
-    ensures { result ≡ are_one_file (items_in (items_view items.now)) }
-{
-    items.len() == 1 && has_files(items)
 }
 
 /// Whether a value is a list of one such text.
@@ -248,7 +152,7 @@ fn is_one_file(value: &Value) -> bool
     ensures { result ≡ is_one_file (view value.now) }
 {
     match value.as_array() {
-        Some(items) => are_one_file(items.as_slice()),
+        Some(items) => is_single(items.as_slice()),
         None => false,
     }
 }
@@ -273,58 +177,91 @@ fn is_path(alloc: Global, value: &Value) -> Result<bool, WantOfMemory>
     }
 }
 
-/// Whether each of some values is the text of a path.
-fn has_paths(alloc: Global, items: &[Value]) -> Result<bool, WantOfMemory>
-    ensures { IfOk result (λ b. b ≡ list_all is_path (items_in (items_view items.now))) }
+/// Whether a value is what an item of a list has to be.
+fn is_item(alloc: Global, item: Item, value: &Value) -> Result<bool, WantOfMemory>
+    ensures { IfOk result (λ b. b ≡ is_item item (view value.now)) }
 {
-    for item in items {
-        if !is_path(alloc, item)? {
+    match item {
+        Item::Text => Ok(is_text(value)),
+        Item::Table => Ok(is_table(value)),
+        Item::Line => Ok(is_line(value)),
+        Item::Path => is_path(alloc, value),
+    }
+}
+
+/// Whether each of some values is.
+fn are_items(alloc: Global, item: Item, values: &[Value]) -> Result<bool, WantOfMemory>
+    ensures { IfOk result (λ b. b ≡ list_all (is_item item) (items_in (items_view values.now))) }
+{
+    for value in values {
+        if !is_item(alloc, item, value)? {
             return Ok(false);
         }
     }
     Ok(true)
 }
 
-/// Whether there are at least so many values, and each is the text of a path.
+/// Whether a value is a list of such items, at least so many.
 #[tactic(auto, using(crate::proofs::Lists::items_in_length))]
-fn are_paths(alloc: Global, least: usize, items: &[Value]) -> Result<bool, WantOfMemory>
-    ensures { IfOk result (λ b. b ≡ are_paths least (items_in (items_view items.now))) }
-{
-    if items.len() < least {
-        return Ok(false);
-    }
-    has_paths(alloc, items)
-}
-
-/// Whether a value is a list of such texts, at least so many.
-fn is_paths(alloc: Global, least: usize, value: &Value) -> Result<bool, WantOfMemory>
-    ensures { IfOk result (λ b. b ≡ is_paths least (view value.now)) }
+fn is_list_of(alloc: Global, item: Item, least: usize, value: &Value) -> Result<bool, WantOfMemory>
+    ensures { IfOk result (λ b. b ≡ is_list_of item least (view value.now)) }
 {
     match value.as_array() {
-        Some(items) => are_paths(alloc, least, items.as_slice()),
-        None => Ok(false),
+        Some(values) if least <= values.len() => are_items(alloc, item, values.as_slice()),
+        _ => Ok(false),
     }
 }
 
-/// Whether a value is a list of texts.
-fn is_names(value: &Value) -> bool
-    ensures { result ≡ is_names (view value.now) }
+/// What is wrong with a value that isn't what it has to be.
+pub(crate) fn bad_unless(right: bool) -> Option<Trouble>
+    ensures { result ≡ bad_unless right }
 {
-    match value.as_array() {
-        Some(items) => !has_other(items.as_slice()),
-        None => false,
+    if right { None } else { Some(Trouble::BadValue) }
+}
+
+/// What is wrong with so many of something, of which there may be so many.
+pub(crate) fn too_many(found: u64, limit: u64) -> Option<Trouble>
+    ensures { result ≡ too_many found limit }
+{
+    if limit < found {
+        Some(Trouble::TooMany { found, limit })
+    } else {
+        None
     }
 }
 
-/// What is wrong with a value that should be a list of paths, at least so many.
-fn fits_paths(alloc: Global, least: usize, value: &Value) -> Result<Option<Trouble>, WantOfMemory>
+/// What is wrong with the items of a list, of which there may be so many.
+#[tactic(auto, using(crate::proofs::Lists::items_in_length))]
+fn fits_list(
+    alloc: Global,
+    item: Item,
+    most: usize,
+    values: &[Value],
+) -> Result<Option<Trouble>, WantOfMemory>
     ensures { IfOk result
-        (λ trouble. trouble ≡ (if is_paths least (view value.now) then None else Some BadValue)) }
+        (λ trouble. trouble ≡ fits_list item most (items_in (items_view values.now))) }
 {
-    if is_paths(alloc, least, value)? {
-        Ok(None)
+    if are_items(alloc, item, values)? {
+        Ok(too_many(values.len() as u64, most as u64))
     } else {
         Ok(Some(Trouble::BadValue))
+    }
+}
+
+/// What is wrong with the stages of a buffer, of which there may be so many.
+#[tactic(auto, using(crate::proofs::Lists::no_items))]
+fn fits_stages(
+    alloc: Global,
+    most: usize,
+    stages: &[Value],
+) -> Result<Option<Trouble>, WantOfMemory>
+    ensures { IfOk result
+        (λ trouble. trouble ≡ fits_stages most (items_in (items_view stages.now))) }
+{
+    if stages.is_empty() {
+        Ok(Some(Trouble::BadValue))
+    } else {
+        fits_list(alloc, Item::Table, most, stages)
     }
 }
 
@@ -333,25 +270,19 @@ fn fits(alloc: Global, shape: Shape, value: &Value) -> Result<Option<Trouble>, W
     ensures { IfOk result (λ trouble. trouble ≡ fits (shape_view shape) (view value.now)) }
 {
     match shape {
-        Shape::Truth if is_truth(value) => Ok(None),
-        Shape::AnyText if is_text(value) => Ok(None),
-        Shape::OneOf(texts) if is_one_of(texts, value) => Ok(None),
+        Shape::Truth => Ok(bad_unless(is_truth(value))),
+        Shape::AnyText => Ok(bad_unless(is_text(value))),
+        Shape::OneOf(texts) => Ok(bad_unless(is_one_of(texts, value))),
         Shape::Texts(most) => match value.as_array() {
-            Some(items) => Ok(fits_texts(most, items.as_slice())),
+            Some(items) => fits_list(alloc, Item::Text, most, items.as_slice()),
             None => Ok(Some(Trouble::BadValue)),
         },
-        Shape::Whole(least, most) => match whole_in(least, most, value) {
-            Some(_) => Ok(None),
-            None => Ok(Some(Trouble::BadValue)),
-        },
-        Shape::Condition if is_text(value) || is_vrl(value) => Ok(None),
-        Shape::Stages(most) => Ok(fits_stages(most, stages_in(value))),
-        Shape::Lines if is_lines(value) => Ok(None),
-        Shape::OneFile if is_one_file(value) => Ok(None),
-        Shape::FixedText if is_fixed(value) => Ok(None),
-        Shape::Paths(least) => fits_paths(alloc, least, value),
-        Shape::Names if is_names(value) => Ok(None),
-        _ => Ok(Some(Trouble::BadValue)),
+        Shape::Whole(least, most) => Ok(bad_unless(whole_in(least, most, value).is_some())),
+        Shape::Condition => Ok(bad_unless(is_text(value) || is_vrl(value))),
+        Shape::Stages(most) => fits_stages(alloc, most, stages_in(value)),
+        Shape::ListOf(item, least) => Ok(bad_unless(is_list_of(alloc, item, least, value)?)),
+        Shape::OneFile => Ok(bad_unless(is_one_file(value))),
+        Shape::FixedText => Ok(bad_unless(is_fixed(value))),
     }
 }
 

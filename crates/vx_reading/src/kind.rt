@@ -1,3 +1,8 @@
+ghost use Rattle.std.specs.Prelude.{◌≡◌};
+ghost use Rattle.vx_reading.specs.Options.{kind_class};
+
+use vx_plan::Class;
+
 /// What a component is: the meaning of its `type`.
 #[derive(Clone, Copy, PartialEq, Eq, Debug)]
 pub(crate) enum Kind {
@@ -25,4 +30,18 @@ pub(crate) enum Kind {
     FileOut,
     /// A sink that writes nothing.
     Blackhole,
+}
+
+impl Kind {
+    /// The class in whose table the type stands.
+    pub(crate) fn class(self) -> Class
+        ensures { result ≡ kind_class self }
+    {
+        match self {
+            Kind::Stdin | Kind::FileIn | Kind::DemoLogs => Class::Source,
+            Kind::Filter | Kind::Route | Kind::Sample | Kind::Dedupe | Kind::Reduce | Kind::Host =>
+                Class::Transform,
+            Kind::Console | Kind::FileOut | Kind::Blackhole => Class::Sink,
+        }
+    }
 }

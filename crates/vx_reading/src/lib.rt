@@ -1,6 +1,7 @@
 //! A configuration is read: a text and an environment give a plan, or the first fault.
 #![tactic(auto)]
 
+mod adding;
 mod diagnostic;
 mod diagnostic_options;
 mod diagnostic_parts;
@@ -11,6 +12,7 @@ mod fields;
 mod first;
 mod given;
 mod graphs;
+mod item;
 mod judging;
 mod kind;
 mod laws;
@@ -21,16 +23,19 @@ mod pair;
 mod part;
 mod paths;
 mod place;
+mod placed;
 mod plan_fault;
 mod plans;
 mod reading;
 mod refusals;
 mod row;
 mod shape;
+mod spot;
 mod stages;
 mod texts;
 mod tried;
 mod trouble;
+mod values;
 
 pub use laws::{few_components, first_configuration, one_answer};
 pub use plan_fault::PlanFault;

@@ -8,9 +8,11 @@ ghost use Rattle.vx_reading.specs.Plans.{group_by_of, strategy_in, strategies_of
 ghost use Rattle.vx_reading.specs.Strategies.{how_named};
 ghost use Rattle.vx_reading.specs.Views.{pair_view};
 
+use crate::adding::push;
 use crate::fields::paths_of;
 use crate::pair::{Pair, pairs_in};
 use crate::texts::same_text;
+use crate::values::list_at;
 use std::alloc::Global;
 use toml::Value;
 use vx_plan::{How, PathList, Strategy, StrategyList};
@@ -20,11 +22,8 @@ use vx_value::{Text, WantOfMemory};
 pub(crate) fn group_by_of(alloc: Global, table: &Value) -> Result<PathList, WantOfMemory>
     ensures { IfOk result (λ paths. paths ≡ group_by_of (view table.now)) }
 {
-    let Some(value) = table.get("group_by") else {
-        return Ok(PathList::new(alloc));
-    };
-    match value.as_array() {
-        Some(values) => paths_of(alloc, values.as_slice()),
+    match list_at("group_by", table) {
+        Some(values) => paths_of(alloc, values),
         None => Ok(PathList::new(alloc)),
     }
 }
@@ -69,10 +68,7 @@ fn push_strategy(
         return Ok(());
     };
     let field = Text::copy_of(alloc, pair.name)?;
-    match strategies.push(Strategy { field, how }) {
-        Ok(()) => Ok(()),
-        Err(_) => Err(WantOfMemory),
-    }
+    push(strategies, Strategy { field, how })
 }
 
 /// How the fields are merged that a table has, by the bytes of their names.

@@ -6,79 +6,69 @@ ghost use Rattle.vx_reading.specs.Options.{global_rows, rows_of, stage_rows, exc
 ghost use Rattle.vx_reading.specs.Views.{rows_view, exclusion_view};
 
 use crate::exclusion::Exclusion;
+use crate::item::Item;
 use crate::kind::Kind;
-use crate::place::Place;
+use crate::place::Place::{self, Alone, Any, Each, Either, Within};
 use crate::row::Row;
-use crate::shape::Shape;
+use crate::shape::Shape::{
+    AnyText, Condition, FixedText, ListOf, OneFile, OneOf, Stages, Texts, Truth, Whole,
+};
 use crate::texts::same_text;
 use vx_plan::Class;
+
+/// An option that may be there.
+macro_rules! optional {
+    ($place:expr, $shape:expr) => {
+        Row {
+            place: $place,
+            shape: $shape,
+            required: false,
+        }
+    };
+}
+
+/// An option that has to be there.
+macro_rules! mandatory {
+    ($place:expr, $shape:expr) => {
+        Row {
+            place: $place,
+            shape: $shape,
+            required: true,
+        }
+    };
+}
 
 /// How many inputs a component may have.
 const MOST_INPUTS: usize = 256;
 
 /// Whether sinks acknowledge: a global option, and one of every sink.
-const ACKNOWLEDGEMENTS_ROW: Row = Row {
-    place: Place::Either("acknowledgements", "enabled"),
-    shape: Shape::Truth,
-    required: false,
-};
+const ACKNOWLEDGEMENTS_ROW: Row = optional!(Either("acknowledgements", "enabled"), Truth);
 
 /// The global options.
-static GLOBAL_ROWS: [Row; 2] = [
-    Row {
-        place: Place::Alone("data_dir"),
-        shape: Shape::AnyText,
-        required: false,
-    },
-    ACKNOWLEDGEMENTS_ROW,
-];
+static GLOBAL_ROWS: [Row; 2] = [optional!(Alone("data_dir"), AnyText), ACKNOWLEDGEMENTS_ROW];
 
 /// An option of every component.
-const TYPE_ROW: Row = Row {
-    place: Place::Alone("type"),
-    shape: Shape::AnyText,
-    required: true,
-};
+const TYPE_ROW: Row = mandatory!(Alone("type"), AnyText);
 
 /// The longest line that a source may allow, in bytes, without its line feed.
 pub(crate) const MOST_LENGTH: u64 = 16_777_216;
 
 /// How a source makes an event of a line: an option of every source that reads.
-const DECODING_ROW: Row = Row {
-    place: Place::Within("decoding", "codec"),
-    shape: Shape::OneOf(&["bytes", "json"]),
-    required: false,
-};
+const DECODING_ROW: Row = optional!(Within("decoding", "codec"), OneOf(&["bytes", "json"]));
 
 /// The options of a source that reads standard input.
 static STDIN_ROWS: [Row; 3] = [
     TYPE_ROW,
-    Row {
-        place: Place::Alone("max_length"),
-        shape: Shape::Whole(1, MOST_LENGTH),
-        required: false,
-    },
+    optional!(Alone("max_length"), Whole(1, MOST_LENGTH)),
     DECODING_ROW,
 ];
 
 /// The options of a source that reads a file.
 static FILE_IN_ROWS: [Row; 5] = [
     TYPE_ROW,
-    Row {
-        place: Place::Alone("max_line_bytes"),
-        shape: Shape::Whole(1, MOST_LENGTH),
-        required: false,
-    },
-    Row {
-        place: Place::Alone("include"),
-        shape: Shape::OneFile,
-        required: true,
-    },
-    Row {
-        place: Place::Alone("read_from"),
-        shape: Shape::OneOf(&["beginning"]),
-        required: false,
-    },
+    optional!(Alone("max_line_bytes"), Whole(1, MOST_LENGTH)),
+    mandatory!(Alone("include"), OneFile),
+    optional!(Alone("read_from"), OneOf(&["beginning"])),
     DECODING_ROW,
 ];
 
@@ -91,44 +81,16 @@ pub(crate) const MOST_SECONDS: u64 = 86_400;
 /// The options of a source that makes its lines of some texts.
 static DEMO_LOGS_ROWS: [Row; 7] = [
     TYPE_ROW,
-    Row {
-        place: Place::Alone("format"),
-        shape: Shape::OneOf(&["shuffle"]),
-        required: true,
-    },
-    Row {
-        place: Place::Alone("lines"),
-        shape: Shape::Lines,
-        required: true,
-    },
-    Row {
-        place: Place::Alone("sequence"),
-        shape: Shape::Truth,
-        required: false,
-    },
-    Row {
-        place: Place::Alone("count"),
-        shape: Shape::Whole(0, MOST_WHOLE),
-        required: false,
-    },
-    Row {
-        place: Place::Alone("interval"),
-        shape: Shape::Whole(0, MOST_SECONDS),
-        required: false,
-    },
-    Row {
-        place: Place::Alone("seed"),
-        shape: Shape::Whole(0, MOST_WHOLE),
-        required: false,
-    },
+    mandatory!(Alone("format"), OneOf(&["shuffle"])),
+    mandatory!(Alone("lines"), ListOf(Item::Line, 1)),
+    optional!(Alone("sequence"), Truth),
+    optional!(Alone("count"), Whole(0, MOST_WHOLE)),
+    optional!(Alone("interval"), Whole(0, MOST_SECONDS)),
+    optional!(Alone("seed"), Whole(0, MOST_WHOLE)),
 ];
 
 /// An option of every component that reads others.
-const INPUTS_ROW: Row = Row {
-    place: Place::Alone("inputs"),
-    shape: Shape::Texts(MOST_INPUTS),
-    required: false,
-};
+const INPUTS_ROW: Row = optional!(Alone("inputs"), Texts(MOST_INPUTS));
 
 /// How many routes there may be.
 const MOST_ROUTES: usize = 64;
@@ -137,50 +99,30 @@ const MOST_ROUTES: usize = 64;
 static FILTER_ROWS: [Row; 3] = [
     TYPE_ROW,
     INPUTS_ROW,
-    Row {
-        place: Place::Alone("condition"),
-        shape: Shape::Condition,
-        required: true,
-    },
+    mandatory!(Alone("condition"), Condition),
 ];
 
 /// The options of a transform that puts events out by conditions.
 static ROUTE_ROWS: [Row; 4] = [
     TYPE_ROW,
     INPUTS_ROW,
-    Row {
-        place: Place::Each("route", MOST_ROUTES),
-        shape: Shape::Condition,
-        required: true,
-    },
-    Row {
-        place: Place::Alone("reroute_unmatched"),
-        shape: Shape::Truth,
-        required: false,
-    },
+    mandatory!(Each("route", MOST_ROUTES), Condition),
+    optional!(Alone("reroute_unmatched"), Truth),
 ];
 
 /// The options of a transform that passes one of some events.
 static SAMPLE_ROWS: [Row; 4] = [
     TYPE_ROW,
     INPUTS_ROW,
-    Row {
-        place: Place::Alone("rate"),
-        shape: Shape::Whole(1, MOST_WHOLE),
-        required: true,
-    },
-    Row {
-        place: Place::Alone("exclude"),
-        shape: Shape::Condition,
-        required: false,
-    },
+    mandatory!(Alone("rate"), Whole(1, MOST_WHOLE)),
+    optional!(Alone("exclude"), Condition),
 ];
 
 /// The values by which events repeat each other.
-const MATCH_PLACE: Place<'static> = Place::Within("fields", "match");
+const MATCH_PLACE: Place<'static> = Within("fields", "match");
 
 /// The fields that don't count for that.
-const IGNORE_PLACE: Place<'static> = Place::Within("fields", "ignore");
+const IGNORE_PLACE: Place<'static> = Within("fields", "ignore");
 
 /// How many keys a transform that discards repeats may keep.
 pub(crate) const MOST_KEYS: u64 = 1_000_000;
@@ -189,28 +131,16 @@ pub(crate) const MOST_KEYS: u64 = 1_000_000;
 static DEDUPE_ROWS: [Row; 5] = [
     TYPE_ROW,
     INPUTS_ROW,
-    Row {
-        place: MATCH_PLACE,
-        shape: Shape::Paths(1),
-        required: false,
-    },
-    Row {
-        place: IGNORE_PLACE,
-        shape: Shape::Names,
-        required: false,
-    },
-    Row {
-        place: Place::Within("cache", "num_events"),
-        shape: Shape::Whole(1, MOST_KEYS),
-        required: false,
-    },
+    optional!(MATCH_PLACE, ListOf(Item::Path, 1)),
+    optional!(IGNORE_PLACE, ListOf(Item::Text, 0)),
+    optional!(Within("cache", "num_events"), Whole(1, MOST_KEYS)),
 ];
 
 /// The events that begin a group.
-const STARTS_PLACE: Place<'static> = Place::Alone("starts_when");
+const STARTS_PLACE: Place<'static> = Alone("starts_when");
 
 /// Or those that end one.
-const ENDS_PLACE: Place<'static> = Place::Alone("ends_when");
+const ENDS_PLACE: Place<'static> = Alone("ends_when");
 
 /// How many milliseconds a transform that merges events may say: 2^53.
 pub(crate) const MOST_PERIOD: u64 = 0x20_0000_0000_0000;
@@ -219,34 +149,14 @@ pub(crate) const MOST_PERIOD: u64 = 0x20_0000_0000_0000;
 static REDUCE_ROWS: [Row; 8] = [
     TYPE_ROW,
     INPUTS_ROW,
-    Row {
-        place: Place::Alone("group_by"),
-        shape: Shape::Paths(0),
-        required: false,
-    },
-    Row {
-        place: STARTS_PLACE,
-        shape: Shape::Condition,
-        required: false,
-    },
-    Row {
-        place: ENDS_PLACE,
-        shape: Shape::Condition,
-        required: false,
-    },
-    Row {
-        place: Place::Alone("expire_after_ms"),
-        shape: Shape::Whole(1, MOST_PERIOD),
-        required: false,
-    },
-    Row {
-        place: Place::Alone("flush_period_ms"),
-        shape: Shape::Whole(1, MOST_PERIOD),
-        required: false,
-    },
-    Row {
-        place: Place::Any("merge_strategies"),
-        shape: Shape::OneOf(&[
+    optional!(Alone("group_by"), ListOf(Item::Path, 0)),
+    optional!(STARTS_PLACE, Condition),
+    optional!(ENDS_PLACE, Condition),
+    optional!(Alone("expire_after_ms"), Whole(1, MOST_PERIOD)),
+    optional!(Alone("flush_period_ms"), Whole(1, MOST_PERIOD)),
+    optional!(
+        Any("merge_strategies"),
+        OneOf(&[
             "discard",
             "retain",
             "sum",
@@ -255,10 +165,9 @@ static REDUCE_ROWS: [Row; 8] = [
             "concat",
             "concat_newline",
             "concat_raw",
-            "array",
-        ]),
-        required: false,
-    },
+            "array"
+        ])
+    ),
 ];
 
 /// The options of a transform that is handed in.
@@ -272,138 +181,86 @@ pub(crate) const MOST_CAPACITY: u64 = 1_000_000;
 
 /// The options of a stage of a buffer.
 static STAGE_ROWS: [Row; 3] = [
-    Row {
-        place: Place::Alone("type"),
-        shape: Shape::OneOf(&["memory"]),
-        required: false,
-    },
-    Row {
-        place: Place::Alone("max_events"),
-        shape: Shape::Whole(1, MOST_CAPACITY),
-        required: false,
-    },
-    Row {
-        place: Place::Alone("when_full"),
-        shape: Shape::OneOf(&["block", "drop_newest", "overflow"]),
-        required: false,
-    },
+    optional!(Alone("type"), OneOf(&["memory"])),
+    optional!(Alone("max_events"), Whole(1, MOST_CAPACITY)),
+    optional!(
+        Alone("when_full"),
+        OneOf(&["block", "drop_newest", "overflow"])
+    ),
 ];
 
 /// The stages of a sink's buffer: an option of every sink.
-const BUFFER_ROW: Row = Row {
-    place: Place::Alone("buffer"),
-    shape: Shape::Stages(MOST_STAGES),
-    required: false,
-};
+const BUFFER_ROW: Row = optional!(Alone("buffer"), Stages(MOST_STAGES));
 
 /// How many parcels a batch of a sink may have.
 pub(crate) const MOST_BATCH: u64 = 10_000;
 
 /// With how many parcels a batch is closed: an option of every sink.
-const BATCH_EVENTS_ROW: Row = Row {
-    place: Place::Within("batch", "max_events"),
-    shape: Shape::Whole(1, MOST_BATCH),
-    required: false,
-};
+const BATCH_EVENTS_ROW: Row = optional!(Within("batch", "max_events"), Whole(1, MOST_BATCH));
 
 /// How many seconds behind its first parcel a batch is closed: an option of every sink.
-const BATCH_TIMEOUT_ROW: Row = Row {
-    place: Place::Within("batch", "timeout_secs"),
-    shape: Shape::Whole(1, MOST_SECONDS),
-    required: false,
-};
+const BATCH_TIMEOUT_ROW: Row = optional!(Within("batch", "timeout_secs"), Whole(1, MOST_SECONDS));
 
 /// How often a failed attempt is made again: an option of every sink.
-const RETRIES_ROW: Row = Row {
-    place: Place::Within("request", "retry_attempts"),
-    shape: Shape::Whole(0, MOST_WHOLE),
-    required: false,
-};
+const RETRIES_ROW: Row = optional!(Within("request", "retry_attempts"), Whole(0, MOST_WHOLE));
 
 /// How many seconds a sink waits behind its first failed attempt: an option of every sink.
-const FIRST_WAIT_ROW: Row = Row {
-    place: Place::Within("request", "retry_initial_backoff_secs"),
-    shape: Shape::Whole(1, MOST_SECONDS),
-    required: false,
-};
+const FIRST_WAIT_ROW: Row = optional!(
+    Within("request", "retry_initial_backoff_secs"),
+    Whole(1, MOST_SECONDS)
+);
 
 /// How many seconds it waits at the most: an option of every sink.
-const LONGEST_WAIT_ROW: Row = Row {
-    place: Place::Within("request", "retry_max_duration_secs"),
-    shape: Shape::Whole(1, MOST_SECONDS),
-    required: false,
-};
+const LONGEST_WAIT_ROW: Row = optional!(
+    Within("request", "retry_max_duration_secs"),
+    Whole(1, MOST_SECONDS)
+);
 
 /// How a sink writes an event: an option of every sink that writes.
-const CODEC_ROW: Row = Row {
-    place: Place::Within("encoding", "codec"),
-    shape: Shape::OneOf(&["text", "json"]),
-    required: true,
-};
+const CODEC_ROW: Row = mandatory!(Within("encoding", "codec"), OneOf(&["text", "json"]));
+
+/// The options of a type of sinks: those of every sink, and its own.
+macro_rules! sink_rows {
+    ($($own:expr),* $(,)?) => {
+        [
+            TYPE_ROW,
+            INPUTS_ROW,
+            $($own,)*
+            ACKNOWLEDGEMENTS_ROW,
+            BUFFER_ROW,
+            BATCH_EVENTS_ROW,
+            BATCH_TIMEOUT_ROW,
+            RETRIES_ROW,
+            FIRST_WAIT_ROW,
+            LONGEST_WAIT_ROW,
+        ]
+    };
+}
 
 /// The options of a sink that writes to standard output or standard error.
-static CONSOLE_ROWS: [Row; 11] = [
-    TYPE_ROW,
-    INPUTS_ROW,
-    Row {
-        place: Place::Alone("target"),
-        shape: Shape::OneOf(&["stdout", "stderr"]),
-        required: false,
-    },
+static CONSOLE_ROWS: [Row; 11] = sink_rows![
+    optional!(Alone("target"), OneOf(&["stdout", "stderr"])),
     CODEC_ROW,
-    ACKNOWLEDGEMENTS_ROW,
-    BUFFER_ROW,
-    BATCH_EVENTS_ROW,
-    BATCH_TIMEOUT_ROW,
-    RETRIES_ROW,
-    FIRST_WAIT_ROW,
-    LONGEST_WAIT_ROW,
 ];
 
 /// The options of a sink that appends to a file.
-static FILE_OUT_ROWS: [Row; 12] = [
-    TYPE_ROW,
-    INPUTS_ROW,
-    Row {
-        place: Place::Alone("path"),
-        shape: Shape::FixedText,
-        required: true,
-    },
-    Row {
-        place: Place::Alone("compression"),
-        shape: Shape::OneOf(&["none"]),
-        required: false,
-    },
+static FILE_OUT_ROWS: [Row; 12] = sink_rows![
+    mandatory!(Alone("path"), FixedText),
+    optional!(Alone("compression"), OneOf(&["none"])),
     CODEC_ROW,
-    ACKNOWLEDGEMENTS_ROW,
-    BUFFER_ROW,
-    BATCH_EVENTS_ROW,
-    BATCH_TIMEOUT_ROW,
-    RETRIES_ROW,
-    FIRST_WAIT_ROW,
-    LONGEST_WAIT_ROW,
 ];
 
 /// How many seconds a sink that writes nothing may say: 2^53.
 pub(crate) const MOST_PRINT_INTERVAL: u64 = 0x20_0000_0000_0000;
 
+/// A number of seconds without effect.
+const PRINT_INTERVAL_ROW: Row = optional!(
+    Alone("print_interval_secs"),
+    Whole(0, MOST_PRINT_INTERVAL)
+);
+
 /// The options of a sink that writes nothing.
-static BLACKHOLE_ROWS: [Row; 10] = [
-    TYPE_ROW,
-    INPUTS_ROW,
-    Row {
-        place: Place::Alone("print_interval_secs"),
-        shape: Shape::Whole(0, MOST_PRINT_INTERVAL),
-        required: false,
-    },
-    ACKNOWLEDGEMENTS_ROW,
-    BUFFER_ROW,
-    BATCH_EVENTS_ROW,
-    BATCH_TIMEOUT_ROW,
-    RETRIES_ROW,
-    FIRST_WAIT_ROW,
-    LONGEST_WAIT_ROW,
-];
+static BLACKHOLE_ROWS: [Row; 10] = sink_rows![PRINT_INTERVAL_ROW];
 
 /// The global options.
 pub(crate) fn global_rows() -> &'static [Row]

@@ -22,14 +22,10 @@ fn pairs_of<'a>(alloc: Global, table: &'a Table) -> Result<Vec<Pair<'a>>, WantOf
 {
     let mut pairs = Vec::new(alloc);
     'members: for (name, value) in table.iter() {
-        let pair = Pair {
+        pairs.push(Pair {
             name: name.as_str(),
             value,
-        };
-        match pairs.push(pair) {
-            Ok(()) => {}
-            Err(_) => return Err(WantOfMemory),
-        }
+        })?;
     }
     Ok(pairs)
 }

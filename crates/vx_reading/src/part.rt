@@ -2,13 +2,16 @@ ghost use Rattle.std.specs.Prelude.{◌≡◌, ◌++◌, IfOk, OnOk, is_some, fi
 ghost use Rattle.std.specs.Option.{option_map};
 ghost use Rattle.toml.specs.View.{view};
 ghost use Rattle.vx_reading.specs.Components.{Part as SpecPart, parts, parts_in, has_part, is_taken, type_in, kind_of, reads_stdin, is_later_stdin};
+ghost use Rattle.vx_reading.specs.Diagnostics.{owner_of};
 ghost use Rattle.vx_reading.specs.Names.{AreApart, part_names, AreApartByClass};
-ghost use Rattle.vx_reading.specs.Views.{part_view, parts_view};
+ghost use Rattle.vx_reading.specs.Views.{owner_view, part_view, parts_view};
 
 use crate::kind::Kind;
 use crate::options::{kind_named, section_name};
+use crate::owner::{Owner, owner_in};
 use crate::pair::pairs_in;
 use crate::texts::same_text;
+use crate::values::text_at;
 use std::alloc::Global;
 use toml::Value;
 use vx_plan::Class;
@@ -20,6 +23,13 @@ pub(crate) struct Part<'a> {
     pub class: Class,
     pub name: &'a str,
     pub value: &'a Value,
+}
+
+/// To whom the faults of a component belong.
+pub(crate) fn owner_of<'a>(part: Part<'a>) -> Owner<'a>
+    ensures { owner_view result ≡ owner_of (part_view part.entry) }
+{
+    owner_in(part.class, part.name)
 }
 
 /// Adds the components of a class, by the bytes of their names.
@@ -44,10 +54,7 @@ fn push_parts<'a>(
             name: pair.name,
             value: pair.value,
         };
-        match parts.push(part) {
-            Ok(()) => {}
-            Err(_) => return Err(WantOfMemory),
-        }
+        parts.push(part)?;
     }
     Ok(())
 }
@@ -91,13 +98,7 @@ pub(crate) fn is_taken(root: &Value, class: Class, name: &str) -> bool
 pub(crate) fn kind_of(part: Part<'_>) -> Option<Kind>
     ensures { result ≡ kind_of (part_view part.entry) }
 {
-    match part.value.get("type") {
-        Some(value) => match value.as_str() {
-            Some(text) => kind_named(part.class, text),
-            None => None,
-        },
-        None => None,
-    }
+    kind_named(part.class, text_at("type", part.value)?)
 }
 
 /// Whether a component reads standard input.

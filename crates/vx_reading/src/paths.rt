@@ -15,10 +15,8 @@ use vx_value::{Text, WantOfMemory};
 fn push(out: &mut String, text: &str) -> Result<(), WantOfMemory>
     ensures { OnOk result (string_bytes out.new ≡ string_bytes out.old ++ text.now) }
 {
-    match out.push_str(text) {
-        Ok(()) => Ok(()),
-        Err(_) => Err(WantOfMemory),
-    }
+    out.push_str(text)?;
+    Ok(())
 }
 
 /// The path of an option, behind what leads to its table.

@@ -3,11 +3,12 @@ ghost use Rattle.std.specs.Option.{option_map};
 ghost use Rattle.std.specs.List.{flat_map};
 ghost use Rattle.toml.specs.View.{view, items_view};
 ghost use Rattle.vx_reading.specs.Judging.{items_in, pairs_in as pairs_in_view};
-ghost use Rattle.vx_reading.specs.Plans.{text_at, text_within, truth_at, truth_in, truth_either, acknowledgements_of, global_of, text_of, texts_at, inputs_of, inputs_for, target_named, length_at, include_of, path_of, decoding_named, codec_named, condition_of, condition_at, condition_given, way_of, ways_of, is_rerouted, whole_at, is_numbered, demo_of, interval_of, whole_within, rate_of, keys_of, batch_events_of, batch_timeout_of, retries_of, first_wait_of, longest_wait_of, sink_of, settings_of, component, component_of};
+ghost use Rattle.vx_reading.specs.Options.{most_seconds};
+ghost use Rattle.vx_reading.specs.Plans.{truth_in, truth_either, acknowledgements_of, global_of, text_of, texts_at, inputs_for, target_named, include_of, path_of, decoding_named, codec_named, condition_of, condition_at, condition_given, way_of, ways_of, is_rerouted, is_numbered, demo_of, keys_of, whole_within, retries_of, sink_of, settings_of, component, component_of};
 ghost use Rattle.vx_reading.specs.Views.{pair_view, part_view, parts_view};
 
+use crate::adding::push;
 use crate::fields::fields_of;
-use crate::judging::whole_in;
 use crate::kind::Kind;
 use crate::merging::{group_by_of, strategies_of};
 use crate::options::{
@@ -17,49 +18,20 @@ use crate::pair::{Pair, pairs_in};
 use crate::part::{Part, kind_of};
 use crate::stages::buffer_of;
 use crate::texts::same_text;
+use crate::values::{list_at, text_at, text_within, truth_at, whole_at, whole_within};
 use std::alloc::Global as Allocator;
 use toml::Value;
 use vx_plan::{
-    Codec, Component, ComponentList, Compression, ConsoleTarget, Decoding, DemoSettings, Global,
-    ReadFrom, Route, RouteList, Settings, SinkSettings,
+    Class, Codec, Component, ComponentList, Compression, ConsoleTarget, Decoding, DemoSettings,
+    Global, ReadFrom, Route, RouteList, Settings, SinkSettings,
 };
 use vx_value::{Text, TextList, WantOfMemory};
 
 /// The length of the longest line where a source doesn't say, without its line feed.
-const LINE_LIMIT: u32 = 102_400;
+const LINE_LIMIT: u64 = 102_400;
 
 /// The folder in which checkpoints are kept where a configuration doesn't say.
 const DATA_DIR: &str = "/var/lib/vector/";
-
-/// The text under a name of a table.
-fn text_at<'a>(name: &str, table: &'a Value) -> Option<&'a str>
-    ensures { option_map (λ t. t.now) result ≡ text_at name.now (view table.now) }
-{
-    match table.get(name) {
-        Some(value) => value.as_str(),
-        None => None,
-    }
-}
-
-/// The text under a name of a table that stands under another name.
-fn text_within<'a>(group: &str, name: &str, table: &'a Value) -> Option<&'a str>
-    ensures { option_map (λ t. t.now) result ≡ text_within group.now name.now (view table.now) }
-{
-    match table.get(group) {
-        Some(inner) => text_at(name, inner),
-        None => None,
-    }
-}
-
-/// The truth under a name of a table.
-fn truth_at(name: &str, table: &Value) -> Option<bool>
-    ensures { result ≡ truth_at name.now (view table.now) }
-{
-    match table.get(name) {
-        Some(value) => value.as_bool(),
-        None => None,
-    }
-}
 
 /// The truth that a value is, or that a table has under a name.
 fn truth_in(name: &str, value: &Value) -> Option<bool>
@@ -112,10 +84,7 @@ fn push_text(alloc: Allocator, texts: &mut TextList, value: &Value) -> Result<()
     let Some(text) = value.as_str() else {
         return Ok(());
     };
-    match texts.push(Text::copy_of(alloc, text)?) {
-        Ok(()) => Ok(()),
-        Err(_) => Err(WantOfMemory),
-    }
+    push(texts, Text::copy_of(alloc, text)?)
 }
 
 /// The texts among some values.
@@ -133,37 +102,19 @@ pub(crate) fn texts_of(alloc: Allocator, values: &[Value]) -> Result<TextList, W
 fn texts_at(alloc: Allocator, name: &str, table: &Value) -> Result<TextList, WantOfMemory>
     ensures { IfOk result (λ texts. texts ≡ texts_at name.now (view table.now)) }
 {
-    let Some(value) = table.get(name) else {
-        return Ok(TextList::new(alloc));
-    };
-    match value.as_array() {
-        Some(values) => texts_of(alloc, values.as_slice()),
+    match list_at(name, table) {
+        Some(values) => texts_of(alloc, values),
         None => Ok(TextList::new(alloc)),
     }
-}
-
-/// The inputs of a component.
-fn inputs_of(alloc: Allocator, table: &Value) -> Result<TextList, WantOfMemory>
-    ensures { IfOk result (λ inputs. inputs ≡ inputs_of (view table.now)) }
-{
-    texts_at(alloc, "inputs", table)
 }
 
 /// The inputs of a component of a type; a source has none.
 fn inputs_for(alloc: Allocator, kind: Kind, table: &Value) -> Result<TextList, WantOfMemory>
     ensures { IfOk result (λ inputs. inputs ≡ inputs_for kind (view table.now)) }
 {
-    match kind {
-        Kind::Stdin | Kind::FileIn | Kind::DemoLogs => Ok(TextList::new(alloc)),
-        Kind::Filter
-        | Kind::Route
-        | Kind::Sample
-        | Kind::Dedupe
-        | Kind::Reduce
-        | Kind::Host
-        | Kind::Console
-        | Kind::FileOut
-        | Kind::Blackhole => inputs_of(alloc, table),
+    match kind.class() {
+        Class::Source => Ok(TextList::new(alloc)),
+        Class::Transform | Class::Sink => texts_at(alloc, "inputs", table),
     }
 }
 
@@ -174,19 +125,6 @@ fn target_named(name: Option<&str>) -> ConsoleTarget
     match name {
         Some(text) if same_text(text, "stderr") => ConsoleTarget::Stderr,
         _ => ConsoleTarget::Stdout,
-    }
-}
-
-/// The length of the longest line that a source takes, under a name of its table.
-fn length_at(name: &str, table: &Value) -> u32
-    ensures { result ≡ length_at name.now (view table.now) }
-{
-    let Some(value) = table.get(name) else {
-        return LINE_LIMIT;
-    };
-    match whole_in(1, MOST_LENGTH, value) {
-        Some(length) => length as u32,
-        None => LINE_LIMIT,
     }
 }
 
@@ -276,10 +214,7 @@ fn push_way(alloc: Allocator, ways: &mut RouteList, pair: Pair<'_>) -> Result<()
         name: Text::copy_of(alloc, pair.name)?,
         condition: Text::copy_of(alloc, condition_of(pair.value))?,
     };
-    match ways.push(way) {
-        Ok(()) => Ok(()),
-        Err(_) => Err(WantOfMemory),
-    }
+    push(ways, way)
 }
 
 /// The ways of a route that a table has, by the bytes of their names.
@@ -314,19 +249,6 @@ fn is_rerouted(table: &Value) -> bool
     }
 }
 
-/// The whole number between two under a name of a table; where there is none, another.
-fn whole_at(name: &str, least: u64, most: u64, otherwise: u64, table: &Value) -> u64
-    ensures { result ≡ whole_at name.now least most otherwise (view table.now) }
-{
-    let Some(value) = table.get(name) else {
-        return otherwise;
-    };
-    match whole_in(least, most, value) {
-        Some(number) => number,
-        None => otherwise,
-    }
-}
-
 /// Whether numbers stand before the lines of a source: they don't where it doesn't say.
 fn is_numbered(table: &Value) -> bool
     ensures { result ≡ is_numbered (view table.now) }
@@ -349,44 +271,6 @@ fn demo_of(alloc: Allocator, table: &Value) -> Result<DemoSettings, WantOfMemory
     })
 }
 
-/// How many seconds lie between two lines of a source that makes them: one where it doesn't say.
-fn interval_of(table: &Value) -> u32
-    ensures { result ≡ interval_of (view table.now) }
-{
-    let Some(value) = table.get("interval") else {
-        return 1;
-    };
-    match whole_in(0, MOST_SECONDS, value) {
-        Some(seconds) => seconds as u32,
-        None => 1,
-    }
-}
-
-/// The whole number between two under a name of a table that stands under another name; where there is none, another.
-fn whole_within(
-    group: &str,
-    name: &str,
-    least: u64,
-    most: u64,
-    otherwise: u64,
-    table: &Value,
-) -> u64
-    requires { otherwise ≤ most }
-    ensures observed { result ≡ whole_within group.now name.now least most otherwise (view table.now) }
-    ensures within { result ≤ most }
-{
-    let Some(inner) = table.get(group) else {
-        return otherwise;
-    };
-    let Some(value) = inner.get(name) else {
-        return otherwise;
-    };
-    match whole_in(least, most, value) {
-        Some(number) => number,
-        None => otherwise,
-    }
-}
-
 /// How many keys a transform that discards repeats keeps: 5,000 where it doesn't say.
 fn keys_of(table: &Value) -> u32
     ensures { result ≡ keys_of (view table.now) }
@@ -394,74 +278,36 @@ fn keys_of(table: &Value) -> u32
     whole_within("cache", "num_events", 1, MOST_KEYS, 5_000, table) as u32
 }
 
-/// With how many parcels a batch of a sink is closed: with one where it doesn't say.
-fn batch_events_of(table: &Value) -> u32
-    ensures { result ≡ batch_events_of (view table.now) }
+/// A number of seconds, one at least, under a name of a table that stands under another name; where there is none, another.
+fn seconds_within(group: &str, name: &str, otherwise: u32, table: &Value) -> u32
+    requires { otherwise ≤ most_seconds }
+    ensures { result ≡ whole_within group.now name.now 1 most_seconds otherwise (view table.now) }
 {
-    whole_within("batch", "max_events", 1, MOST_BATCH, 1, table) as u32
-}
-
-/// How many seconds behind its first parcel a batch is closed: one where it doesn't say.
-fn batch_timeout_of(table: &Value) -> u32
-    ensures { result ≡ batch_timeout_of (view table.now) }
-{
-    whole_within("batch", "timeout_secs", 1, MOST_SECONDS, 1, table) as u32
+    whole_within(group, name, 1, MOST_SECONDS, otherwise as u64, table) as u32
 }
 
 /// How often a sink makes a failed attempt again: as often as an option may say where it doesn't say.
 fn retries_of(table: &Value) -> u64
     ensures { result ≡ retries_of (view table.now) }
 {
-    whole_within(
-        "request",
-        "retry_attempts",
-        0,
-        MOST_WHOLE,
-        MOST_WHOLE,
-        table,
-    )
-}
-
-/// How many seconds it waits behind the first: one where it doesn't say.
-fn first_wait_of(table: &Value) -> u32
-    ensures { result ≡ first_wait_of (view table.now) }
-{
-    whole_within(
-        "request",
-        "retry_initial_backoff_secs",
-        1,
-        MOST_SECONDS,
-        1,
-        table,
-    ) as u32
-}
-
-/// How many it waits at the most: 30 where it doesn't say.
-fn longest_wait_of(table: &Value) -> u32
-    ensures { result ≡ longest_wait_of (view table.now) }
-{
-    whole_within(
-        "request",
-        "retry_max_duration_secs",
-        1,
-        MOST_SECONDS,
-        30,
-        table,
-    ) as u32
+    let most = MOST_WHOLE;
+    whole_within("request", "retry_attempts", 0, most, most, table)
 }
 
 /// The options that every sink has: it acknowledges as the global option says where it doesn't say itself.
 fn sink_of(alloc: Allocator, global: &Global, table: &Value) -> Result<SinkSettings, WantOfMemory>
     ensures { IfOk result (λ sink. sink ≡ sink_of global.now (view table.now)) }
 {
+    let first_wait = seconds_within("request", "retry_initial_backoff_secs", 1, table);
+    let longest_wait = seconds_within("request", "retry_max_duration_secs", 30, table);
     Ok(SinkSettings {
         acknowledgements: acknowledgements_of(global.acknowledgements, table),
         buffer: buffer_of(alloc, table)?,
-        batch_max_events: batch_events_of(table),
-        batch_timeout_secs: batch_timeout_of(table),
+        batch_max_events: whole_within("batch", "max_events", 1, MOST_BATCH, 1, table) as u32,
+        batch_timeout_secs: seconds_within("batch", "timeout_secs", 1, table),
         request_retry_attempts: retries_of(table),
-        request_retry_initial_backoff_secs: first_wait_of(table),
-        request_retry_max_duration_secs: longest_wait_of(table),
+        request_retry_initial_backoff_secs: first_wait,
+        request_retry_max_duration_secs: longest_wait,
     })
 }
 
@@ -476,18 +322,18 @@ fn settings_of(
 {
     match kind {
         Kind::Stdin => Ok(Settings::Stdin {
-            max_length: length_at("max_length", table),
+            max_length: whole_at("max_length", 1, MOST_LENGTH, LINE_LIMIT, table) as u32,
             decoding_codec: decoding_named(text_within("decoding", "codec", table)),
         }),
         Kind::FileIn => Ok(Settings::FileIn {
-            max_line_bytes: length_at("max_line_bytes", table),
+            max_line_bytes: whole_at("max_line_bytes", 1, MOST_LENGTH, LINE_LIMIT, table) as u32,
             include: include_of(alloc, table)?,
             read_from: ReadFrom::Beginning,
             decoding_codec: decoding_named(text_within("decoding", "codec", table)),
         }),
         Kind::DemoLogs => Ok(Settings::DemoLogs {
             demo: demo_of(alloc, table)?,
-            interval: interval_of(table),
+            interval: whole_at("interval", 0, MOST_SECONDS, 1, table) as u32,
         }),
         Kind::Filter => Ok(Settings::Filter {
             condition: Text::copy_of(alloc, condition_at("condition", table))?,
@@ -561,10 +407,7 @@ fn push_component(
     let Some(kind) = kind_of(part) else {
         return Ok(());
     };
-    match components.push(make_component(alloc, global, part, kind)?) {
-        Ok(()) => Ok(()),
-        Err(_) => Err(WantOfMemory),
-    }
+    push(components, make_component(alloc, global, part, kind)?)
 }
 
 /// The components that the parts of a document stand for.

@@ -6,8 +6,9 @@ ghost use Rattle.vx_reading.specs.Components.{parts};
 ghost use Rattle.vx_reading.specs.Names.{AreApart, names_of};
 ghost use Rattle.vx_reading.specs.Views.{parts_view};
 ghost use Rattle.vx_reading.specs.Reading.{IsRightlyJudged, IsTextRead, IsReading};
-ghost use Rattle.vx_reading.specs.Answers.{plan_in, HasConditions};
+ghost use Rattle.vx_reading.specs.Answers.{plan_in, HasConditions, IsFound};
 
+use crate::diagnostic::DiagnosticList;
 use crate::diagnostics::diagnostics;
 use crate::first::first;
 use crate::graphs::nodes_of;
@@ -19,9 +20,9 @@ use crate::tried::{ConditionLists, Tried, try_all};
 use std::alloc::Global;
 use toml::Value;
 use vx_graph::{GraphFault, check};
-use vx_plan::Plan;
+use vx_plan::{ComponentList, Global as Options, Plan};
 use vx_subst::{SubstFault, replace};
-use vx_value::VariableList;
+use vx_value::{VariableList, WantOfMemory};
 
 /// What was read: a plan, and the conditions of each of its components.
 #[derive(Drop)]
@@ -30,6 +31,15 @@ pub struct ReadPlan {
     /// The conditions of each component of the plan, in order: of a filter one, of a route one for each way, of a sample or a reduce the
     /// one that it may have, and none of others.
     pub conditions: ConditionLists,
+}
+
+/// What was found in a document: its options, its components with their conditions, and each fault.
+#[derive(Drop)]
+struct Found {
+    global: Options,
+    components: ComponentList,
+    conditions: ConditionLists,
+    diagnostics: DiagnosticList,
 }
 
 /// The plan of a document.
@@ -44,12 +54,10 @@ fn read_root(alloc: Global, root: &Value) -> Result<ReadPlan, PlanFault>
     read_parts(alloc, root, all.as_slice())
 }
 
-/// The plan of a document that has these components.
-fn read_parts(alloc: Global, root: &Value, all: &[Part<'_>]) -> Result<ReadPlan, PlanFault>
+/// What is found in a document that has these components.
+fn find(alloc: Global, root: &Value, all: &[Part<'_>]) -> Result<Found, WantOfMemory>
     requires { parts_view all.now ≡ parts (view root.now) }
-    ensures judged { (refuses : ByteString → Bool)
-        × IsRightlyJudged refuses (view root.now) (plan_in result) }
-    ensures conditions { IfOk result HasConditions }
+    ensures { IfOk result (IsFound (view root.now)) }
 {
     let global = global_of(alloc, root)?;
     let components = components_of(alloc, &global, all)?;
@@ -57,9 +65,30 @@ fn read_parts(alloc: Global, root: &Value, all: &[Part<'_>]) -> Result<ReadPlan,
         refused,
         conditions,
     } = try_all(alloc, &components)?;
-    let mut found = diagnostics(alloc, root, all)?;
-    push_refusals(alloc, &mut found, &refused, &components)?;
-    if let Some(fault) = first(found) {
+    let mut diagnostics = diagnostics(alloc, root, all)?;
+    push_refusals(alloc, &mut diagnostics, &refused, &components)?;
+    Ok(Found {
+        global,
+        components,
+        conditions,
+        diagnostics,
+    })
+}
+
+/// The plan of a document that has these components.
+fn read_parts(alloc: Global, root: &Value, all: &[Part<'_>]) -> Result<ReadPlan, PlanFault>
+    requires { parts_view all.now ≡ parts (view root.now) }
+    ensures judged { (refuses : ByteString → Bool)
+        × IsRightlyJudged refuses (view root.now) (plan_in result) }
+    ensures conditions { IfOk result HasConditions }
+{
+    let Found {
+        global,
+        components,
+        conditions,
+        diagnostics,
+    } = find(alloc, root, all)?;
+    if let Some(fault) = first(diagnostics) {
         return Err(fault);
     }
     // A plan looks at each pair of its components: now they are known to be few.

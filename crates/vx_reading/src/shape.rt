@@ -1,3 +1,5 @@
+use crate::item::Item;
+
 /// What the value of an option has to be.
 #[derive(Clone, Copy)]
 pub(crate) enum Shape {
@@ -15,14 +17,10 @@ pub(crate) enum Shape {
     Stages(usize),
     /// A whole number between two, both among them.
     Whole(u64, u64),
-    /// A list of texts, one at least, of which none has a line feed.
-    Lines,
+    /// A list of so many items at least.
+    ListOf(Item, usize),
     /// A list of one text, in which no `*`, `?` or `[` stands.
     OneFile,
     /// A text in which no `{` stands.
     FixedText,
-    /// A list of texts, at least so many, of which each is the path of a field.
-    Paths(usize),
-    /// A list of texts.
-    Names,
 }

@@ -1,23 +1,25 @@
 // The stages of a sink's buffer.
-ghost use Rattle.std.specs.Prelude.{◌≡◌, ◌++◌, ◌∷◌, ◌+◌, [], IfOk, OnOk, map};
+ghost use Rattle.std.specs.Prelude.{◌≡◌, ◌+◌, IfOk, map};
 ghost use Rattle.std.specs.Option.{option_map};
 ghost use Rattle.toml.specs.View.{view, items_view};
 ghost use Rattle.vx_reading.specs.Judging.{items_in};
-ghost use Rattle.vx_reading.specs.Stages.{stages_of, stages_for, capacity_at, when_full_named, when_full_of, is_misplaced, stage_of, buffer_of, capacity_in, room_of, capacity_of_all};
+ghost use Rattle.vx_reading.specs.Stages.{stages_of, stages_for, capacity_at, when_full_named, when_full_of, is_misplaced, stage_of, buffer_of, capacity_in, room_for, room_of, capacity_of_all};
 ghost use Rattle.vx_reading.specs.Views.{part_view, parts_view};
 
-use crate::judging::{stages_in, whole_in};
+use crate::adding::push;
+use crate::judging::stages_in;
 use crate::kind::Kind;
 use crate::options::MOST_CAPACITY;
 use crate::part::{Part, kind_of};
 use crate::texts::same_text;
+use crate::values::{text_at, whole_at};
 use std::alloc::Global;
 use toml::Value;
-use vx_plan::{Stage, StageList, WhenFull};
+use vx_plan::{Class, Stage, StageList, WhenFull};
 use vx_value::WantOfMemory;
 
 /// For how many events a stage has room where it doesn't say.
-const STAGE_CAPACITY: u32 = 500;
+const STAGE_CAPACITY: u64 = 500;
 
 /// The stages that the table of a sink gives, in order.
 fn stages_of(table: &Value) -> &[Value]
@@ -33,17 +35,9 @@ fn stages_of(table: &Value) -> &[Value]
 pub(crate) fn stages_for(kind: Kind, table: &Value) -> &[Value]
     ensures { items_in (items_view result.now) ≡ stages_for kind (view table.now) }
 {
-    match kind {
-        Kind::Stdin
-        | Kind::FileIn
-        | Kind::DemoLogs
-        | Kind::Filter
-        | Kind::Route
-        | Kind::Sample
-        | Kind::Dedupe
-        | Kind::Reduce
-        | Kind::Host => &[],
-        Kind::Console | Kind::FileOut | Kind::Blackhole => stages_of(table),
+    match kind.class() {
+        Class::Source | Class::Transform => &[],
+        Class::Sink => stages_of(table),
     }
 }
 
@@ -51,13 +45,7 @@ pub(crate) fn stages_for(kind: Kind, table: &Value) -> &[Value]
 fn capacity_at(stage: &Value) -> u32
     ensures { result ≡ capacity_at (view stage.now) }
 {
-    let Some(value) = stage.get("max_events") else {
-        return STAGE_CAPACITY;
-    };
-    match whole_in(1, MOST_CAPACITY, value) {
-        Some(room) => room as u32,
-        None => STAGE_CAPACITY,
-    }
+    whole_at("max_events", 1, MOST_CAPACITY, STAGE_CAPACITY, stage) as u32
 }
 
 /// What a full stage does, by the name of it: it blocks where there is none.
@@ -75,10 +63,7 @@ fn when_full_named(name: Option<&str>) -> WhenFull
 pub(crate) fn when_full_of(stage: &Value) -> WhenFull
     ensures { result ≡ when_full_of (view stage.now) }
 {
-    match stage.get("when_full") {
-        Some(value) => when_full_named(value.as_str()),
-        None => WhenFull::Block,
-    }
+    when_full_named(text_at("when_full", stage))
 }
 
 /// Whether a stage stands where it may not, by whether it is the last: one that may stand overflows exactly where another is behind it.
@@ -88,16 +73,6 @@ pub(crate) fn is_misplaced(last: bool, when_full: WhenFull) -> bool
     match when_full {
         WhenFull::Block | WhenFull::DropNewest => !last,
         WhenFull::Overflow => last,
-    }
-}
-
-/// Adds a stage.
-fn push_stage(stages: &mut StageList, stage: Stage) -> Result<(), WantOfMemory>
-    ensures { OnOk result (stages.new ≡ stages.old ++ stage ∷ []) }
-{
-    match stages.push(stage) {
-        Ok(()) => Ok(()),
-        Err(_) => Err(WantOfMemory),
     }
 }
 
@@ -111,7 +86,7 @@ fn stages_read(alloc: Global, given: &[Value]) -> Result<StageList, WantOfMemory
             max_events: capacity_at(value),
             when_full: when_full_of(value),
         };
-        push_stage(&mut stages, stage)?;
+        push(&mut stages, stage)?;
     }
     Ok(stages)
 }
@@ -123,10 +98,10 @@ pub(crate) fn buffer_of(alloc: Global, table: &Value) -> Result<StageList, WantO
     let mut buffer = stages_read(alloc, stages_of(table))?;
     if buffer.is_empty() {
         let stage = Stage {
-            max_events: STAGE_CAPACITY,
+            max_events: STAGE_CAPACITY as u32,
             when_full: WhenFull::Block,
         };
-        push_stage(&mut buffer, stage)?;
+        push(&mut buffer, stage)?;
     }
     Ok(buffer)
 }
@@ -152,27 +127,26 @@ fn capacity_in(stages: &[Stage]) -> Result<u64, WantOfMemory>
     Ok(room)
 }
 
-/// For how many events the buffer of a component has room; only those of sinks count.
+/// For how many events the buffer of a component of a type has room; only those of sinks count.
+fn room_for(alloc: Global, kind: Kind, table: &Value) -> Result<u64, WantOfMemory>
+    ensures { IfOk result (λ room. room ≡ room_for kind (view table.now)) }
+{
+    match kind.class() {
+        Class::Source | Class::Transform => Ok(0),
+        Class::Sink => {
+            let buffer = buffer_of(alloc, table)?;
+            capacity_in(buffer.as_slice())
+        }
+    }
+}
+
+/// The same of a component as the document has it.
 fn room_of(alloc: Global, part: Part<'_>) -> Result<u64, WantOfMemory>
     ensures { IfOk result (λ room. room ≡ room_of (part_view part.entry)) }
 {
     match kind_of(part) {
-        Some(Kind::Console | Kind::FileOut | Kind::Blackhole) => {
-            let buffer = buffer_of(alloc, part.value)?;
-            capacity_in(buffer.as_slice())
-        }
-        Some(
-            Kind::Stdin
-            | Kind::FileIn
-            | Kind::DemoLogs
-            | Kind::Filter
-            | Kind::Route
-            | Kind::Sample
-            | Kind::Dedupe
-            | Kind::Reduce
-            | Kind::Host,
-        )
-        | None => Ok(0),
+        Some(kind) => room_for(alloc, kind, part.value),
+        None => Ok(0),
     }
 }
 

@@ -6,5 +6,5 @@ use Rattle.vx_reading.proofs.diagnostic_options.push_given.Given as goal
 -- what is left to add makes the list whole
 abbrev pub invariant-loop-given : goal.invariant-loop-given
 invariant-loop-given l =
-    l.diagnostics ++ given_diagnostics (owner_view l.owner) l.lead (rows_view l.rows) (givens_view (drop l.given-index l.all))
-    ≡ l.initial.diagnostics ++ given_diagnostics (owner_view l.owner) l.lead (rows_view l.rows) (givens_view l.all)
+    l.diagnostics ++ given_diagnostics (owner_view l.spot.owner) l.spot.lead.now (rows_view l.rows) (givens_view (drop l.given-index l.all))
+    ≡ l.initial.diagnostics ++ given_diagnostics (owner_view l.spot.owner) l.spot.lead.now (rows_view l.rows) (givens_view l.all)

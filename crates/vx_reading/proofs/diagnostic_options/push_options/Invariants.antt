@@ -7,5 +7,5 @@ use Rattle.vx_reading.proofs.diagnostic_options.push_options.Given as goal
 -- what is left to add makes the list whole
 abbrev pub invariant-loop-row : goal.invariant-loop-row
 invariant-loop-row l =
-    l.diagnostics ++ flat_map (row_diagnostics (owner_view l.owner) l.lead (givens_view l.all)) (rows_view (drop l.row-index l.rows))
-    ≡ l.initial.diagnostics ++ flat_map (row_diagnostics (owner_view l.owner) l.lead (givens_view l.all)) (rows_view l.rows)
+    l.diagnostics ++ flat_map (row_diagnostics (owner_view l.spot.owner) l.spot.lead.now (givens_view l.all)) (rows_view (drop l.row-index l.rows))
+    ≡ l.initial.diagnostics ++ flat_map (row_diagnostics (owner_view l.spot.owner) l.spot.lead.now (givens_view l.all)) (rows_view l.rows)

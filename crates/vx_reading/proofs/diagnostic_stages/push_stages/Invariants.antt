@@ -8,5 +8,5 @@ use Rattle.vx_reading.proofs.diagnostic_stages.push_stages.Given as goal
 -- what is left to add makes the list whole
 abbrev pub invariant-loop-i : goal.invariant-loop-i
 invariant-loop-i l =
-    l.diagnostics ++ buffer_diagnostics (owner_view l.owner) l.lead (items_in (items_view (drop l.i l.stages)))
-    ≡ l.initial.diagnostics ++ buffer_diagnostics (owner_view l.owner) l.lead (items_in (items_view l.stages))
+    l.diagnostics ++ buffer_diagnostics (owner_view l.spot.owner) l.spot.lead.now (items_in (items_view (drop l.i l.stages)))
+    ≡ l.initial.diagnostics ++ buffer_diagnostics (owner_view l.spot.owner) l.spot.lead.now (items_in (items_view l.stages))
