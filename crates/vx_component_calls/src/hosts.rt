@@ -81,26 +81,30 @@ fn numbers_a_line<R: Abort, H: Hosts>(rt: &R, alloc: Global, hosts: &mut H) -> R
     Ok(())
 }
 
-#[test]
-fn a_host_numbers_a_line(rt: HostRuntime) -> Result<(), Fail> {
-    let alloc = rt.alloc();
+// A numbering, which the instance 3 runs.
+fn one_numbering(rt: &impl Abort, alloc: Global) -> Result<HostList, Fail> {
     let numbering = Box::new(alloc, Hosted::new(Numbering::new()))?;
     let own = Text::copy_of(alloc, "numbering")?;
     let name = own.copy(alloc)?;
     let mut hosts = HostList::new(alloc);
     hosts.push(HostTransform::new(own, numbering))?;
-    assert!(&rt; hosts.has(&name));
+    assert!(rt; hosts.has(&name));
     hosts.assign(&name, 3);
+    Ok(hosts)
+}
+
+#[test]
+fn a_host_numbers_a_line(rt: HostRuntime) -> Result<(), Fail> {
+    let alloc = rt.alloc();
+    let mut hosts = one_numbering(&rt, alloc)?;
     numbers_a_line(&rt, alloc, &mut hosts)
 }
 
 #[test]
 fn an_instance_without_a_host_discards(rt: HostRuntime) -> Result<(), Fail> {
     let alloc = rt.alloc();
-    let numbering = Box::new(alloc, Hosted::new(Numbering::new()))?;
-    let name = Text::copy_of(alloc, "numbering")?;
-    let mut hosts = HostList::new(alloc);
-    hosts.push(HostTransform::new(name, numbering))?;
+    let mut hosts = one_numbering(&rt, alloc)?;
+    hosts.release();
     let first = event(alloc, 1, 2)?;
     let second = event(alloc, 1, 5)?;
     let mut batches = Batches::new(alloc)?;

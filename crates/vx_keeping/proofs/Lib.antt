@@ -9,6 +9,7 @@ pub mod Carrying
 pub mod Firsts
 pub mod Sound
 pub mod Idling
+pub mod Assigning
 pub mod Making
 pub mod Off
 pub mod Going

@@ -3,6 +3,7 @@ pub mod Given
 pub mod Making
 pub mod Stored
 pub mod Keeping
+pub mod Assigning
 pub mod Answers
 pub mod Laws
 pub mod Numbers

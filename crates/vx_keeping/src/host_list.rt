@@ -1,7 +1,8 @@
 ghost use Rattle.std.specs.Prelude.{◌≡◌, ◌<◌, [], ◌∷◌, ◌++◌, OnOk, OnErr, IfSome, length};
-ghost use Rattle.std.specs.List.{list_any};
+ghost use Rattle.std.specs.List.{list_any, position};
 ghost use Rattle.vx_value.specs.Texts.{same_text};
 ghost use Rattle.vx_transform.specs.Shelves.{copies_dropped};
+ghost use Rattle.vx_keeping.specs.Assigning.{Host, assigned, is_free, is_run, names_of, released, runs_of};
 ghost use Rattle.vx_keeping.specs.Given.{SameCopies};
 
 use crate::host_transform::HostTransform;
@@ -15,7 +16,7 @@ use vx_places::Line;
 use vx_transform::Shelf;
 use vx_value::{Text, WantOfMemory};
 
-/// The transforms that a program hands in, in order. Contracts see their names.
+/// The transforms that a program hands in, in order. Contracts see the name of each, and the instance that runs it.
 #[derive(Drop)]
 pub struct HostList {
     hosts: Vec<HostTransform>,
@@ -24,9 +25,9 @@ pub struct HostList {
 impl Model for HostList {
     ghost use Rattle.std.specs.Prelude.{List};
     ghost use Rattle.std.specs.Coded.{codes};
-    ghost use Rattle.vx_value.specs.Texts.{ByteString};
+    ghost use Rattle.vx_keeping.specs.Assigning.{Host};
 
-    ghost Value = { List ByteString };
+    ghost Value = { List Host };
 
     ghost coded = { Prim.hlevel codes };
 
@@ -56,7 +57,7 @@ impl HostList {
 
     /// Whether one of them has a name.
     pub fn has(&self, name: &Text) -> bool
-        ensures { result ≡ list_any (same_text name.now) self.now }
+        ensures { result ≡ list_any (same_text name.now) (names_of self.now) }
     {
         for host in self.hosts.as_slice() {
             if host.is_named(name) {
@@ -66,34 +67,46 @@ impl HostList {
         false
     }
 
-    /// Has an instance run the first of a name that no instance runs yet, if there is one.
-    pub fn assign(&mut self, name: &Text, instance: u32)
-        ensures { self.new ≡ self.old }
+    /// Has no instance run any of them.
+    pub fn release(&mut self)
+        ensures names { names_of self.new ≡ names_of self.old }
+        ensures runs { runs_of self.new ≡ released (names_of self.old) }
     {
-        if let Some(place) = self.first_unused(name) {
-            self.hosts[place].instance = Some(instance);
+        for place in 0..self.hosts.len() {
+            self.hosts[place].run_by(None);
         }
     }
 
-    // The place of the first of a name that no instance runs yet.
-    fn first_unused(&self, name: &Text) -> Option<usize>
-        ensures { IfSome result (λ place. place < length self.now) }
+    /// Has an instance run the first of a name that no instance runs, and changes nothing else. Where there is none, it changes nothing.
+    pub fn assign(&mut self, name: &Text, instance: u32)
+        ensures names { names_of self.new ≡ names_of self.old }
+        ensures runs { runs_of self.new ≡
+            assigned name.now instance (names_of self.old) (runs_of self.old) }
+    {
+        if let Some(place) = self.place_for(name) {
+            self.hosts[place].run_by(Some(instance));
+        }
+    }
+
+    // The place of the first of a name that no instance runs.
+    fn place_for(&self, name: &Text) -> Option<usize>
+        ensures { result ≡
+            position (λ (host : Host). is_free name.now host.name host.instance) self.now }
     {
         for place in 0..self.hosts.len() {
-            let host = &self.hosts[place];
-            if host.instance.is_none() && host.is_named(name) {
+            if self.hosts[place].is_free(name) {
                 return Some(place);
             }
         }
         None
     }
 
-    // The place of the one that an instance runs.
+    // The place of the first that an instance runs.
     fn place_of(&self, instance: u32) -> Option<usize>
-        ensures { IfSome result (λ place. place < length self.now) }
+        ensures { result ≡ position (λ (host : Host). is_run instance host.instance) self.now }
     {
         for place in 0..self.hosts.len() {
-            if self.hosts[place].instance == Some(instance) {
+            if self.hosts[place].is_run(instance) {
                 return Some(place);
             }
         }
@@ -148,10 +161,16 @@ impl Hosts for HostList {
 }
 
 impl NamedHosts for HostList {
-    ghost names = { λ list. list };
+    ghost names = { names_of };
+
+    ghost runs = { runs_of };
 
     fn has(&self, name: &Text) -> bool {
         HostList::has(self, name)
+    }
+
+    fn release(&mut self) {
+        HostList::release(self);
     }
 
     fn assign(&mut self, name: &Text, instance: u32) {

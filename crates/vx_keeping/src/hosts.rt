@@ -9,9 +9,9 @@ use vx_places::Line;
 use vx_transform::Shelf;
 use vx_value::WantOfMemory;
 
-/// The transforms that a program hands in, each by the number of the instance that runs it. They hold no copy from one call to the next,
-/// so that each that they were given is found behind the call: on the shelf, among what is left over, or, for want of memory, still in
-/// the line. One that isn't there leaves over what it is given.
+/// The transforms that a program hands in, each asked by the number of the instance that runs it. They hold no copy from one call to the
+/// next, so that each that they were given is found behind the call: on the shelf, among what is left over, or, for want of memory, still
+/// in the line. Which of them a number stands for, and what it makes of the events, no clause here says.
 pub trait Hosts {
     /// Gives an instance's transform the parcels of a line, the oldest first, at a moment in milliseconds; it leaves over what it would
     /// go on holding. For want of memory it may have been given some first ones.

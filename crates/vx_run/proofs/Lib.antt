@@ -1,6 +1,7 @@
 pub mod Sources
 pub mod Going
 pub mod Hosted
+pub mod Assigned
 pub mod Judged
 pub mod Prepared
 pub mod Reading

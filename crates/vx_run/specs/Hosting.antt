@@ -1,10 +1,12 @@
 -- The transforms that a program hands in, each for a component of its name.
-use Rattle.std.specs.Prelude.{◌≡◌, ◌⊎◌, Bool, true, false, ◌&&◌, ◌||◌, not, List, IfSome}
+use Rattle.std.specs.Prelude.{◌≡◌, ◌⊎◌, ℕ, ◌<◌, Bool, true, false, ◌&&◌, ◌||◌, not, cond, Option, Some, None, List, [], length, get_or, IfSome}
 use Rattle.std.specs.List.{list_all, list_any}
 use Rattle.vx_value.specs.Texts.{ByteString, same_text, text_lt}
 use Rattle.vx_plan.specs.declared.component.Component.{Component}
 use Rattle.vx_plan.specs.declared.plan.Plan.{Plan}
+use Rattle.vx_plan.specs.Accepted.{names_differ}
 use Rattle.vx_reading.specs.Made.{is_hosted}
+use Rattle.vx_keeping.specs.Assigning.{assigned}
 use Rattle.vx_record.specs.Records.{Record}
 use Rattle.vx_record.specs.Installs.{in_force}
 use Rattle.vx_cli.specs.declared.fault.Fault.{Fault}
@@ -36,3 +38,16 @@ abbrev pub LacksHost : List ByteString → List Component → Fault → Type 0
 LacksHost names components (UnknownHost name) = IsLeastUnknown names components name
 LacksHost names components WantOfMemory = Unit {0}
 LacksHost names components other = ⊥
+
+-- which instances run those of some names once one of a component has what it is to run
+abbrev pub now_run : List ByteString → List (Option ℕ) → ℕ → Component → List (Option ℕ)
+now_run names runs i c = cond (is_hosted c.settings) (assigned c.name i names runs) runs
+
+-- of those of some names, in order, which some instances run: each instance of the first so many components runs the one of its name
+-- if it is to, where one of that name is there and no two components have one name; and no instance runs any other
+pub record RunEach (names : List ByteString) (runs : List (Option ℕ)) (components : List Component) (n : ℕ) : Type 0 where
+  pub count : length runs ≡ length names
+  pub own : (place i : ℕ) (d : Component) → get_or runs place None ≡ Some i →
+      (i < n) × (is_hosted (get_or components i d).settings ≡ true) × (same_text (get_or components i d).name (get_or names place []) ≡ true)
+  pub each : names_differ components ≡ true → (i : ℕ) (d : Component) → i < n → is_hosted (get_or components i d).settings ≡ true →
+      list_any (same_text (get_or components i d).name) names ≡ true → (place : ℕ) × (place < length names) × (get_or runs place None ≡ Some i)

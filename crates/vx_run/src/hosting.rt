@@ -2,7 +2,7 @@
 ghost use Rattle.std.specs.Prelude.{◌≡◌, ◌<◌, ◌^◌, length, IfSome, IfNone};
 ghost use Rattle.vx_value.specs.Texts.{text_lt};
 ghost use Rattle.vx_reading.specs.Made.{is_hosted};
-ghost use Rattle.vx_run.specs.Hosting.{AllKnown, IsLeastUnknown, IsLesser, LacksHost, is_unknown};
+ghost use Rattle.vx_run.specs.Hosting.{AllKnown, IsLeastUnknown, IsLesser, LacksHost, RunEach, is_unknown, now_run};
 
 use std::alloc::Global;
 use std::cmp::Ordering;
@@ -87,17 +87,28 @@ fn text_lt(a: &str, b: &str) -> bool
     }
 }
 
-/// Has each instance of a plan that is to run a transform which is handed in run the one of its name. Its number is its component's
-/// place.
+/// Has each instance of a plan that is to run a transform which is handed in run one of its name, and no other instance run any. Its
+/// number is its component's place.
 pub(crate) fn assign_hosts<H: NamedHosts>(plan: &Plan, hosts: &mut H)
     requires { length plan.now.components < 2 ^ 32 }
-    ensures { H.names hosts.new ≡ H.names hosts.old }
+    ensures names { H.names hosts.new ≡ H.names hosts.old }
+    ensures each { RunEach (H.names hosts.new) (H.runs hosts.new) plan.now.components
+        (length plan.now.components) }
 {
+    hosts.release();
     let components = plan.components.as_slice();
     for i in 0..components.len() {
-        let component = &components[i];
-        if is_hosted(&component.settings) {
-            hosts.assign(&component.name, i as u32);
-        }
+        assign_host(&components[i], i as u32, hosts);
+    }
+}
+
+/// Has an instance of a component run the first transform of its name that no instance runs, if it is to run one and there is one.
+fn assign_host<H: NamedHosts>(component: &Component, instance: u32, hosts: &mut H)
+    ensures names { H.names hosts.new ≡ H.names hosts.old }
+    ensures runs { H.runs hosts.new ≡
+        now_run (H.names hosts.old) (H.runs hosts.old) instance component.now }
+{
+    if is_hosted(&component.settings) {
+        hosts.assign(&component.name, instance);
     }
 }

@@ -24,9 +24,9 @@ use vx_value::{TextList, VariableList};
 /// Runs the pipeline of a configuration, or judges one, as the words ask for, and prints why that didn't end well. Where the words ask for
 /// it, it prints what each instance of a run counted, after all ports are closed.
 ///
-/// `words` are the program's words without its own name, and `hosts` the transforms that the program hands in: a component of the type
-/// `host` runs the one of its name. A run that ends has read its input to its end, but for sources that failed, and for runs that were
-/// given up; it may wait for as long as a port has nothing.
+/// `words` are the program's words without its own name, and `hosts` the transforms that the program hands in for the components of the
+/// type `host`: a run where one of these has none of its name doesn't begin. A run that ends has read its input to its end, but for
+/// sources that failed, and for runs that were given up; it may wait for as long as a port has nothing.
 pub fn vector<R: Wait, W: World, C: Clock, H: NamedHosts + Drop, P: Printer, L: Printer>(
     rt: &R,
     alloc: Global,
