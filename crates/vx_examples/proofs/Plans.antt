@@ -1,157 +1,45 @@
 -- The plans of the examples may be installed. Their graphs have no cycle: each component has a higher rank than those that read
--- it, by the ranks that are given here in the order of the components' names.
-use Rattle.std.proofs.Common.{[], ◌∷◌, refl}
-use Rattle.vx_graph.specs.Order.{in_order, enter}
-use Rattle.vx_graph.proofs.Ranks.{no_cycle}
-use Rattle.vx_plan.specs.Accepted.{IsPlan}
+-- it, by ranks that are given in the order of the components' names.
+use Rattle.std.proofs.Common.{◌≡◌, ℕ, Bool, true, false, Option, None, Some, List, [], ◌∷◌, refl}
+use Rattle.std.specs.Prelude.{is_some}
+use Rattle.std.specs.List.{list_any, list_all}
+use Rattle.vx_graph.specs.declared.node.Node.{Node}
+use Rattle.vx_graph.specs.Classes.{is_source, is_sink}
+use Rattle.vx_graph.specs.Faults.{first_bare, first_unknown}
+use Rattle.vx_graph.specs.Order.{in_order}
+use Rattle.vx_graph.specs.Outputs.{rows_of}
+use Rattle.vx_graph.proofs.Ranks.{ranks_fall, no_cycle}
+use Rattle.vx_plan.specs.declared.plan.Plan.{Plan}
+use Rattle.vx_plan.specs.Accepted.{names_differ, fits_class, has_stage, IsPlan}
 use Rattle.vx_plan.specs.Graphs.{nodes_of}
-use Rattle.vx_examples.specs.Batched as batched
-use Rattle.vx_examples.specs.Chained as chained
-use Rattle.vx_examples.specs.Dropped as dropped
-use Rattle.vx_examples.specs.FanOut as fan_out
-use Rattle.vx_examples.specs.Filtered as filtered
-use Rattle.vx_examples.specs.Generated as generated
-use Rattle.vx_examples.specs.GivenUp as given_up
-use Rattle.vx_examples.specs.Joined as joined
-use Rattle.vx_examples.specs.JsonLines as json_lines
-use Rattle.vx_examples.specs.Lost as lost
-use Rattle.vx_examples.specs.NeverStarted as never_started
-use Rattle.vx_examples.specs.Overflowing as overflowing
-use Rattle.vx_examples.specs.Routed as routed
-use Rattle.vx_examples.specs.ThreeTargets as three_targets
-use Rattle.vx_examples.specs.Waiting as waiting
 
-pub batched_stands : IsPlan batched.plan
-unfolding in_order enter
-batched_stands = record {
-  named = refl;
-  fitting = refl;
-  staged = refl;
-  accepted = record { sources = refl; sinks = refl; inputs = refl; known = refl; acyclic = no_cycle (1 ∷ 0 ∷ []) (in_order (nodes_of batched.plan)) refl };
-}
+-- what some nodes are asked, and what is asked of a plan
+abbrev about_nodes : List ℕ → List Node → List Bool
+about_nodes ranks nodes =
+    list_any is_source nodes ∷ list_any is_sink nodes ∷ is_some (first_bare nodes) ∷ is_some (first_unknown nodes)
+    ∷ ranks_fall ranks (rows_of nodes) ∷ []
 
-pub chained_stands : IsPlan chained.plan
-unfolding in_order enter
-chained_stands = record {
-  named = refl;
-  fitting = refl;
-  staged = refl;
-  accepted = record { sources = refl; sinks = refl; inputs = refl; known = refl; acyclic = no_cycle (2 ∷ 1 ∷ 4 ∷ 0 ∷ 3 ∷ []) (in_order (nodes_of chained.plan)) refl };
-}
+abbrev about : List ℕ → Plan → List Bool
+about ranks plan =
+    names_differ plan.components ∷ list_all fits_class plan.components ∷ list_all has_stage plan.components
+    ∷ about_nodes ranks (in_order (nodes_of plan))
 
-pub dropped_stands : IsPlan dropped.plan
-unfolding in_order enter
-dropped_stands = record {
-  named = refl;
-  fitting = refl;
-  staged = refl;
-  accepted = record { sources = refl; sinks = refl; inputs = refl; known = refl; acyclic = no_cycle (1 ∷ 0 ∷ 0 ∷ []) (in_order (nodes_of dropped.plan)) refl };
-}
+nothing_is : {X : Type 0} (o : Option X) → is_some o ≡ false → o ≡ None
+nothing_is None none = refl
+nothing_is (Some x) none = absurd (cc)
 
-pub fan_out_stands : IsPlan fan_out.plan
-unfolding in_order enter
-fan_out_stands = record {
-  named = refl;
-  fitting = refl;
-  staged = refl;
-  accepted = record { sources = refl; sinks = refl; inputs = refl; known = refl; acyclic = no_cycle (1 ∷ 0 ∷ 0 ∷ []) (in_order (nodes_of fan_out.plan)) refl };
-}
-
-pub filtered_stands : IsPlan filtered.plan
-unfolding in_order enter
-filtered_stands = record {
-  named = refl;
-  fitting = refl;
-  staged = refl;
-  accepted = record { sources = refl; sinks = refl; inputs = refl; known = refl; acyclic = no_cycle (1 ∷ 2 ∷ 0 ∷ []) (in_order (nodes_of filtered.plan)) refl };
-}
-
-pub generated_stands : IsPlan generated.plan
-unfolding in_order enter
-generated_stands = record {
-  named = refl;
-  fitting = refl;
-  staged = refl;
-  accepted = record { sources = refl; sinks = refl; inputs = refl; known = refl; acyclic = no_cycle (1 ∷ 0 ∷ []) (in_order (nodes_of generated.plan)) refl };
-}
-
-pub given_up_stands : IsPlan given_up.plan
-unfolding in_order enter
-given_up_stands = record {
-  named = refl;
-  fitting = refl;
-  staged = refl;
-  accepted = record { sources = refl; sinks = refl; inputs = refl; known = refl; acyclic = no_cycle (1 ∷ 0 ∷ []) (in_order (nodes_of given_up.plan)) refl };
-}
-
-pub joined_stands : IsPlan joined.plan
-unfolding in_order enter
-joined_stands = record {
-  named = refl;
-  fitting = refl;
-  staged = refl;
-  accepted = record { sources = refl; sinks = refl; inputs = refl; known = refl; acyclic = no_cycle (2 ∷ 0 ∷ 1 ∷ []) (in_order (nodes_of joined.plan)) refl };
-}
-
-pub json_lines_stands : IsPlan json_lines.plan
-unfolding in_order enter
-json_lines_stands = record {
-  named = refl;
-  fitting = refl;
-  staged = refl;
-  accepted = record { sources = refl; sinks = refl; inputs = refl; known = refl; acyclic = no_cycle (1 ∷ 0 ∷ []) (in_order (nodes_of json_lines.plan)) refl };
-}
-
-pub lost_stands : IsPlan lost.plan
-unfolding in_order enter
-lost_stands = record {
-  named = refl;
-  fitting = refl;
-  staged = refl;
-  accepted = record { sources = refl; sinks = refl; inputs = refl; known = refl; acyclic = no_cycle (1 ∷ 0 ∷ []) (in_order (nodes_of lost.plan)) refl };
-}
-
-pub never_started_stands : IsPlan never_started.plan
-unfolding in_order enter
-never_started_stands = record {
-  named = refl;
-  fitting = refl;
-  staged = refl;
-  accepted = record { sources = refl; sinks = refl; inputs = refl; known = refl; acyclic = no_cycle (1 ∷ 0 ∷ []) (in_order (nodes_of never_started.plan)) refl };
-}
-
-pub overflowing_stands : IsPlan overflowing.plan
-unfolding in_order enter
-overflowing_stands = record {
-  named = refl;
-  fitting = refl;
-  staged = refl;
-  accepted = record { sources = refl; sinks = refl; inputs = refl; known = refl; acyclic = no_cycle (1 ∷ 0 ∷ []) (in_order (nodes_of overflowing.plan)) refl };
-}
-
-pub routed_stands : IsPlan routed.plan
-unfolding in_order enter
-routed_stands = record {
-  named = refl;
-  fitting = refl;
-  staged = refl;
-  accepted = record { sources = refl; sinks = refl; inputs = refl; known = refl; acyclic = no_cycle (2 ∷ 0 ∷ 1 ∷ []) (in_order (nodes_of routed.plan)) refl };
-}
-
-pub three_targets_stands : IsPlan three_targets.plan
-unfolding in_order enter
-three_targets_stands = record {
-  named = refl;
-  fitting = refl;
-  staged = refl;
-  accepted = record { sources = refl; sinks = refl; inputs = refl; known = refl; acyclic = no_cycle (1 ∷ 0 ∷ 0 ∷ 0 ∷ []) (in_order (nodes_of three_targets.plan)) refl };
-}
-
-pub waiting_stands : IsPlan waiting.plan
-unfolding in_order enter
-waiting_stands = record {
-  named = refl;
-  fitting = refl;
-  staged = refl;
-  accepted = record { sources = refl; sinks = refl; inputs = refl; known = refl; acyclic = no_cycle (1 ∷ 0 ∷ []) (in_order (nodes_of waiting.plan)) refl };
-}
+pub stands : (ranks : List ℕ) (plan : Plan) → about ranks plan ≡ true ∷ true ∷ true ∷ true ∷ true ∷ false ∷ false ∷ true ∷ [] → IsPlan plan
+stands ranks plan same =
+    let nodes : List Node = in_order (nodes_of plan) in
+    record {
+      named = cc;
+      fitting = cc;
+      staged = cc;
+      accepted = record {
+        sources = cc;
+        sinks = cc;
+        inputs = nothing_is (first_bare nodes) cc;
+        known = nothing_is (first_unknown nodes) cc;
+        acyclic = no_cycle ranks nodes cc;
+      };
+    }

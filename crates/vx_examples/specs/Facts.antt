@@ -3,10 +3,8 @@ use Rattle.std.specs.Prelude.{◌≡◌, ◌-◌, ◌^◌, Some, true, false, []
 use Rattle.std.specs.Str.Lossy.{utf8_lossy}
 use Rattle.vx_value.specs.Texts.{ByteString}
 use Rattle.vx_plan.specs.declared.component.Component.{Component}
-use Rattle.vx_plan.specs.declared.class.Class.TheVariants.{Transform, Sink}
-use Rattle.vx_plan.specs.declared.settings.Settings.TheVariants.{Filter, Console}
-use Rattle.vx_codec.specs.declared.codec.Codec.TheVariants as codec
-use Rattle.vx_plan.specs.declared.console_target.ConsoleTarget.TheVariants.{Stdout}
+use Rattle.vx_plan.specs.declared.class.Class.TheVariants.{Transform}
+use Rattle.vx_plan.specs.declared.settings.Settings.TheVariants.{Filter}
 use Rattle.vx_plan.specs.declared.plan.Plan.{Plan}
 use Rattle.vx_plan.specs.Components.{retry_wait}
 use Rattle.vx_plan.specs.Targets.{is_like, targets, acknowledged}
@@ -23,7 +21,8 @@ use Rattle.vx_record.specs.Confirms.{confirmed}
 use Rattle.vx_record.specs.Tallies.{tally}
 use Rattle.vx_record.specs.Tally.{nothing_counted}
 use Rattle.vx_examples.specs.FirstRun.{first_run}
-use Rattle.vx_examples.specs.Parts.{source, sink, block, options, plan_with}
+use Rattle.vx_examples.specs.Phrases.{so_far}
+use Rattle.vx_examples.specs.Parts.{source, sink, console, block, options, plan_with}
 use Rattle.vx_examples.specs.Dropped as dropped
 use Rattle.vx_examples.specs.Lost as lost
 use Rattle.vx_examples.specs.FanOut as fan_out
@@ -132,12 +131,7 @@ NoReaders = targets wide (codes "z") 0 ≡ []
 
 -- batches wait only where an acknowledging sink is reached
 abbrev pub acknowledging : Component
-acknowledging = record {
-  name = codes "k";
-  class = Sink;
-  inputs = codes "in" ∷ [];
-  settings = Console Stdout codec.Text (options true (block ∷ []) 1 4 2);
-}
+acknowledging = console (codes "k") (codes "in") (options true (block ∷ []) 1 4 2)
 
 abbrev pub Waits : Type 0
 Waits = acknowledged (plan_with (source (codes "in") ∷ source (codes "out") ∷ acknowledging ∷ [])) (codes "in") ≡ true
@@ -176,16 +170,16 @@ RetryWaits = map (retry_wait acknowledging.settings) (1 ∷ 2 ∷ 3 ∷ 4 ∷ []
 
 -- how long sources rest, and when a sink tries again
 abbrev pub RestsBehindARead : Type 0
-RestsBehindARead = reading_moment generated.after13 0 ≡ 1000
+RestsBehindARead = reading_moment (so_far 13 generated.run) 0 ≡ 1000
 
 abbrev pub RestsBehindAnIdle : Type 0
-RestsBehindAnIdle = reading_moment (Idle 0 false ∷ filtered.after2) 0 ≡ 20
+RestsBehindAnIdle = reading_moment (Idle 0 false ∷ so_far 2 filtered.run) 0 ≡ 20
 
 abbrev pub RestsBehindAFailedStart : Type 0
-RestsBehindAFailedStart = reading_moment (Idle 0 true ∷ filtered.after2) 0 ≡ 1000
+RestsBehindAFailedStart = reading_moment (Idle 0 true ∷ so_far 2 filtered.run) 0 ≡ 1000
 
 abbrev pub RetryMoment : Type 0
-RetryMoment = retry_from retried.after38 2 ≡ 2000
+RetryMoment = retry_from (so_far 38 retried.run) 2 ≡ 2000
 
 -- ill-formed bytes
 abbrev pub Replaced : Type 0
@@ -193,11 +187,11 @@ Replaced = utf8_lossy (0x61 ∷ 0xE2 ∷ 0x82 ∷ 0x62 ∷ []) ≡ 0x61 ∷ 0xEF
 
 -- a Read of no bytes isn't the one that bytes were last taken of
 abbrev pub EmptyRead : Type 0
-EmptyRead = last_stream (Read 0 5 (Bytes []) ∷ failed_take.after3) 0 ≡ Some 0
+EmptyRead = last_stream (Read 0 5 (Bytes []) ∷ so_far 3 failed_take.run) 0 ≡ Some 0
 
 -- a sink that took at the last moment that an entry can tell
 abbrev pub late : Record
-late = Take 1 0 (1 ∷ []) ∷ Lease 1 0 (2 ^ 64 - 1) 0 ∷ failed_take.after7
+late = Take 1 0 (1 ∷ []) ∷ Lease 1 0 (2 ^ 64 - 1) 0 ∷ so_far 7 failed_take.run
 
 -- a wait ends at the last moment, and so does a sink batch's timeout
 abbrev pub RetryAtTheEnd : Type 0

@@ -1,89 +1,13 @@
 -- A run of the first configuration whose input fails behind `a` and a line feed.
-use Rattle.std.specs.Prelude.{true, false, [], ◌∷◌}
-use Rattle.vx_ends.specs.declared.trouble.Reply.TheVariants.{Ok}
-use Rattle.vx_status.specs.declared.outcome.Outcome.TheVariants.{Delivered}
-use Rattle.vx_status.specs.declared.batch_status.BatchStatus.TheVariants as batch
-use Rattle.vx_record.specs.declared.taken.Taken.TheVariants.{Bytes}
-use Rattle.vx_record.specs.declared.entry.Entry.TheVariants.{Install, Lease, Home, Read, SourceLost, Born, Split, Push, Take, Attempt, Spent, Notice, Confirm, Closed, Retired}
+use Rattle.std.specs.Prelude.{false, [], ◌∷◌, ◌++◌}
+use Rattle.vx_plan.specs.First.{first_plan}
+use Rattle.vx_record.specs.declared.entry.Entry.TheVariants.{SourceLost}
 use Rattle.vx_record.specs.Records.{Record}
-use Rattle.vx_examples.specs.Parts.{event_with, child}
-use Rattle.vx_examples.specs.FirstRun.{plan, instances}
-
--- the record after its first n entries
-abbrev pub after1 : Record
-after1 = Install 0 plan false instances 0 ∷ []
-
-abbrev pub after2 : Record
-after2 = Lease 0 0 0 0 ∷ after1
-
-abbrev pub after3 : Record
-after3 = Read 0 0 (Bytes (97 ∷ 10 ∷ [])) ∷ after2
-
-abbrev pub after4 : Record
-after4 = Born 0 0 0 (0 ∷ []) (event_with 97 ∷ []) false 0 2 ∷ after3
-
-abbrev pub after5 : Record
-after5 = Home 0 ∷ after4
-
-abbrev pub after6 : Record
-after6 = Split 0 1 (0 ∷ []) (event_with 97) (child 1 1 ∷ []) ∷ after5
-
-abbrev pub after7 : Record
-after7 = Push 0 1 0 (1 ∷ []) ∷ after6
-
-abbrev pub after8 : Record
-after8 = Lease 1 0 0 0 ∷ after7
-
-abbrev pub after9 : Record
-after9 = Take 1 0 (1 ∷ []) ∷ after8
-
-abbrev pub after10 : Record
-after10 = Attempt 1 (1 ∷ []) (97 ∷ 10 ∷ []) Ok ∷ after9
-
-abbrev pub after11 : Record
-after11 = Spent 1 1 Delivered ∷ after10
-
-abbrev pub after12 : Record
-after12 = Notice 0 batch.Delivered ∷ after11
-
-abbrev pub after13 : Record
-after13 = Home 1 ∷ after12
-
-abbrev pub after14 : Record
-after14 = Lease 0 0 0 0 ∷ after13
-
-abbrev pub after15 : Record
-after15 = Confirm 0 (record { stream = 0; end = 2 } ∷ []) true ∷ after14
-
-abbrev pub after16 : Record
-after16 = SourceLost 0 2 false ∷ after15
-
-abbrev pub after17 : Record
-after17 = Home 0 ∷ after16
-
-abbrev pub after18 : Record
-after18 = Lease 1 0 0 0 ∷ after17
-
-abbrev pub after19 : Record
-after19 = Closed 1 ∷ after18
-
-abbrev pub after20 : Record
-after20 = Home 1 ∷ after19
-
-abbrev pub after21 : Record
-after21 = Retired 1 ∷ after20
-
-abbrev pub after22 : Record
-after22 = Lease 0 0 0 0 ∷ after21
-
-abbrev pub after23 : Record
-after23 = Closed 0 ∷ after22
-
-abbrev pub after24 : Record
-after24 = Home 0 ∷ after23
-
-abbrev pub after25 : Record
-after25 = Retired 0 ∷ after24
+use Rattle.vx_examples.specs.Parts.{event_with}
+use Rattle.vx_examples.specs.Phrases.{recorded, begins, turn, taken_in, confirmed, passed_on, written, noticed, ended}
 
 abbrev pub run : Record
-run = after25
+run =
+    recorded (begins first_plan ∷ turn 0 0 (taken_in 0 0 (97 ∷ 10 ∷ []) 0 (event_with 97 ∷ []) 2)
+    ∷ passed_on 0 1 0 (event_with 97) 1 ∷ turn 1 0 (written 1 1 (97 ∷ 10 ∷ []) ++ noticed 0)
+    ∷ turn 0 0 (confirmed 0 0 2 ++ (SourceLost 0 2 false ∷ [])) ∷ ended 1 0 ∷ ended 0 0 ∷ [])

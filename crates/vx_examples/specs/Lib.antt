@@ -1,3 +1,4 @@
+pub mod Phrases
 pub mod FirstRun
 pub mod Refused
 pub mod Parts

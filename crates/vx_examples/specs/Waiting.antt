@@ -1,131 +1,23 @@
 -- Batches that wait: the first is delivered and confirmed, the second fails and is not.
-use Rattle.std.specs.Prelude.{true, false, List, [], ◌∷◌, codes}
-use Rattle.vx_ends.specs.declared.trouble.Reply.TheVariants.{Ok, Failed}
-use Rattle.vx_status.specs.declared.outcome.Outcome.TheVariants.{Delivered, Attempts}
+use Rattle.std.specs.Prelude.{true, [], ◌∷◌, ◌++◌, codes}
+use Rattle.vx_ends.specs.declared.trouble.Reply.TheVariants.{Failed}
+use Rattle.vx_status.specs.declared.outcome.Outcome.TheVariants.{Attempts}
 use Rattle.vx_status.specs.declared.batch_status.BatchStatus.TheVariants as batch
 use Rattle.vx_plan.specs.declared.plan.Plan.{Plan}
-use Rattle.vx_record.specs.declared.instance.Instance.{Instance}
-use Rattle.vx_record.specs.declared.taken.Taken.TheVariants.{Bytes, AllEnded}
-use Rattle.vx_record.specs.declared.entry.Entry.TheVariants.{Install, Lease, Home, Read, Born, Split, Push, Take, Attempt, Spent, Notice, Confirm, Closed, Retired}
+use Rattle.vx_record.specs.declared.taken.Taken.TheVariants.{Bytes}
+use Rattle.vx_record.specs.declared.entry.Entry.TheVariants.{Read, Born, Take, Attempt, Spent, Notice}
 use Rattle.vx_record.specs.Records.{Record}
-use Rattle.vx_examples.specs.Parts.{source, acknowledging, plan_with, new_instance, event_with, child}
+use Rattle.vx_examples.specs.Parts.{source, acknowledging, plan_with, event_with}
+use Rattle.vx_examples.specs.Phrases.{recorded, begins, turn, told_the_end, confirmed, passed_on, written, noticed, ended}
 
 abbrev pub plan : Plan
 plan = plan_with (source (codes "in") ∷ acknowledging (codes "out") (codes "in") ∷ [])
 
-abbrev pub instances : List Instance
-instances = new_instance 0 (codes "in") ∷ new_instance 1 (codes "out") ∷ []
-
-abbrev pub after1 : Record
-after1 = Install 0 plan false instances 0 ∷ []
-
-abbrev pub after2 : Record
-after2 = Lease 0 0 0 0 ∷ after1
-
-abbrev pub after3 : Record
-after3 = Read 0 0 (Bytes (97 ∷ 10 ∷ [])) ∷ after2
-
-abbrev pub after4 : Record
-after4 = Born 0 0 0 (0 ∷ []) (event_with 97 ∷ []) true 0 2 ∷ after3
-
-abbrev pub after5 : Record
-after5 = Home 0 ∷ after4
-
-abbrev pub after6 : Record
-after6 = Split 0 1 (0 ∷ []) (event_with 97) (child 1 1 ∷ []) ∷ after5
-
-abbrev pub after7 : Record
-after7 = Push 0 1 0 (1 ∷ []) ∷ after6
-
-abbrev pub after8 : Record
-after8 = Lease 1 0 0 0 ∷ after7
-
-abbrev pub after9 : Record
-after9 = Take 1 0 (1 ∷ []) ∷ after8
-
-abbrev pub after10 : Record
-after10 = Attempt 1 (1 ∷ []) (97 ∷ 10 ∷ []) Ok ∷ after9
-
-abbrev pub after11 : Record
-after11 = Spent 1 1 Delivered ∷ after10
-
-abbrev pub after12 : Record
-after12 = Notice 0 batch.Delivered ∷ after11
-
-abbrev pub after13 : Record
-after13 = Home 1 ∷ after12
-
-abbrev pub after14 : Record
-after14 = Lease 0 0 0 0 ∷ after13
-
-abbrev pub after15 : Record
-after15 = Confirm 0 (record { stream = 0; end = 2 } ∷ []) true ∷ after14
-
-abbrev pub after16 : Record
-after16 = Read 0 0 (Bytes (98 ∷ 10 ∷ [])) ∷ after15
-
-abbrev pub after17 : Record
-after17 = Born 0 2 0 (2 ∷ []) (event_with 98 ∷ []) true 0 4 ∷ after16
-
-abbrev pub after18 : Record
-after18 = Home 0 ∷ after17
-
-abbrev pub after19 : Record
-after19 = Split 0 1 (2 ∷ []) (event_with 98) (child 1 3 ∷ []) ∷ after18
-
-abbrev pub after20 : Record
-after20 = Push 0 1 0 (3 ∷ []) ∷ after19
-
-abbrev pub after21 : Record
-after21 = Lease 1 0 0 0 ∷ after20
-
-abbrev pub after22 : Record
-after22 = Take 1 0 (3 ∷ []) ∷ after21
-
-abbrev pub after23 : Record
-after23 = Attempt 1 (3 ∷ []) [] Failed ∷ after22
-
-abbrev pub after24 : Record
-after24 = Spent 1 3 Attempts ∷ after23
-
-abbrev pub after25 : Record
-after25 = Notice 2 batch.Errored ∷ after24
-
-abbrev pub after26 : Record
-after26 = Home 1 ∷ after25
-
-abbrev pub after27 : Record
-after27 = Lease 0 0 0 0 ∷ after26
-
-abbrev pub after28 : Record
-after28 = Read 0 0 AllEnded ∷ after27
-
-abbrev pub after29 : Record
-after29 = Home 0 ∷ after28
-
-abbrev pub after30 : Record
-after30 = Lease 0 0 0 0 ∷ after29
-
-abbrev pub after31 : Record
-after31 = Closed 0 ∷ after30
-
-abbrev pub after32 : Record
-after32 = Home 0 ∷ after31
-
-abbrev pub after33 : Record
-after33 = Retired 0 ∷ after32
-
-abbrev pub after34 : Record
-after34 = Lease 1 0 0 0 ∷ after33
-
-abbrev pub after35 : Record
-after35 = Closed 1 ∷ after34
-
-abbrev pub after36 : Record
-after36 = Home 1 ∷ after35
-
-abbrev pub after37 : Record
-after37 = Retired 1 ∷ after36
-
 abbrev pub run : Record
-run = after37
+run =
+    recorded (begins plan ∷ turn 0 0 (Read 0 0 (Bytes (97 ∷ 10 ∷ [])) ∷ Born 0 0 0 (0 ∷ []) (event_with 97 ∷ []) true 0 2 ∷ [])
+    ∷ passed_on 0 1 0 (event_with 97) 1 ∷ turn 1 0 (written 1 1 (97 ∷ 10 ∷ []) ++ noticed 0)
+    ∷ turn 0 0 (confirmed 0 0 2 ++ (Read 0 0 (Bytes (98 ∷ 10 ∷ [])) ∷ Born 0 2 0 (2 ∷ []) (event_with 98 ∷ []) true 0 4 ∷ []))
+    ∷ passed_on 0 1 2 (event_with 98) 3
+    ∷ turn 1 0 (Take 1 0 (3 ∷ []) ∷ Attempt 1 (3 ∷ []) [] Failed ∷ Spent 1 3 Attempts ∷ Notice 2 batch.Errored ∷ [])
+    ∷ turn 0 0 (told_the_end 0) ∷ ended 0 0 ∷ ended 1 0 ∷ [])

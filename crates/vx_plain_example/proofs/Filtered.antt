@@ -9,7 +9,7 @@ use Rattle.vx_record.specs.Reads.{taken}
 use Rattle.vx_plain.specs.Plain.{Feeds, Chain, readers_of}
 use Rattle.vx_plain.proofs.Streams.{endless_unbroken}
 use Rattle.vx_examples.proofs.Conditions.{is_k, means_k}
-use Rattle.vx_examples.proofs.FilteredLegal.{legal36, closed36}
+use Rattle.vx_examples.proofs.FilteredLegal as filtered
 use Rattle.vx_examples.specs.Parts.{block}
 use Rattle.vx_examples.specs.Filtered.{plan, filter_k, run}
 use Rattle.vx_plain_example.specs.Filtered.{IsPlainFiltered}
@@ -66,15 +66,5 @@ plain_filtered = record {
   source = refl;
   through = refl;
   sink = refl;
-  plain = record {
-    legal = legal36;
-    installed = refl;
-    closed = closed36;
-    whole = refl;
-    unfailed = refl;
-    unrefused = refl;
-    ended = refl;
-    one = of_one;
-    unbroken = endless_unbroken run 0 0 refl;
-  };
+  plain = record { legal = filtered.legal; installed = refl; closed = filtered.closed; whole = refl; unfailed = refl; unrefused = refl; ended = refl; one = of_one; unbroken = endless_unbroken run 0 0 refl };
 }
