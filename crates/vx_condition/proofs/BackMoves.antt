@@ -3,8 +3,8 @@ use Rattle.std.proofs.Common.{◌≡◌, ℕ, suc, max, ◌+◌, ◌-◌, ◌<�
 use Rattle.vx_value.specs.Texts.{ByteString}
 use Rattle.vx_condition.specs.Trees as tree
 use Rattle.vx_condition.specs.Trees.{Disjunction}
-use Rattle.vx_condition.specs.Grammar.{Then, Is, IsPathText, IsString, IsWhole, IsPatternText, IsLiteralText, IsPredicateText, Arguments, sign_of}
-use Rattle.vx_condition.specs.Moves.{at, at_some, with_term, sought}
+use Rattle.vx_condition.specs.Grammar.{Then, Is, IsPathText, IsString, IsWhole, IsPatternText, IsLiteralText, IsPredicateText, Arguments, Call, sign_of}
+use Rattle.vx_condition.specs.Moves.{at, at_some, with_term}
 use Rattle.vx_condition.specs.Runs.{kept}
 use Rattle.vx_condition.specs.declared.predicate.Predicate.{Predicate}
 use Rattle.vx_condition.specs.declared.predicate.Predicate.TheVariants.{Equal, Different, Compared, Exists, Contains, Matches}
@@ -12,9 +12,10 @@ use Rattle.vx_condition.specs.declared.operator.Operator.{Operator}
 use Rattle.vx_condition.specs.declared.operator.Operator.TheVariants as operator
 use Rattle.vx_condition.specs.declared.operator.Equality.TheVariants as equality
 use Rattle.vx_condition.specs.declared.call.Call.TheVariants as call
+use Rattle.vx_condition.specs.declared.call.Search.{Search}
 use Rattle.vx_condition.specs.declared.call.Search.TheVariants as search_for
 use Rattle.vx_condition.specs.declared.fixed_word.FixedWord.TheVariants as fixed
-use Rattle.vx_condition.specs.declared.path_place.PathPlace.TheVariants as place
+use Rattle.vx_value.specs.declared.path_mode.PathMode.TheVariants as place
 use Rattle.vx_condition.specs.declared.expected.Expected.TheVariants as wants
 use Rattle.vx_condition.specs.declared.mode.Behind.TheVariants.{Wants}
 use Rattle.vx_condition.specs.declared.mode.PathUse.TheVariants as path_of
@@ -27,7 +28,7 @@ use Rattle.vx_condition.specs.Conditions.{term_levels, conjunction_levels, disju
 use Rattle.vx_condition.specs.Moves.{operand, operand_mode, fresh, levels_in}
 use Rattle.vx_condition.specs.Runs.{kept_term, kept_conjunction, kept_disjunction}
 use Rattle.vx_condition.proofs.TreeRuns.{one_more, conjunction_of-terms, disjunction_of-branches}
-use Rattle.vx_condition.proofs.Rests.{Blanks, Close, Part, Sought, Equated, Measured, LiteralRest, sign_for, Operated, Pathed, Bracket, Open, all_with, After, Before, Finishes, Rest}
+use Rattle.vx_condition.proofs.Rests.{Blanks, Close, Worded, Argument, Equated, Measured, LiteralRest, sign_for, Operated, Pathed, Bracket, Open, all_with, After, Before, Finishes, Rest}
 use Rattle.vx_condition.proofs.Backs.{good, wrong, split, pick, land, bad, as_byte, token_then, via_word, same_text, Rest_of, begin_path}
 use Rattle.vx_condition.proofs.BackTrees.{conjunction_with, disjunction_with}
 
@@ -73,88 +74,56 @@ exists_predicate keeps found t bl =
           });
     }
 
-record PartArguments (found : Predicate) (text : ByteString) : Type 0 where
+record Searched (keeps : Bool) (made : List ByteString → ByteString → Predicate) (IsWord : ByteString → ByteString → Type 0) (found : Predicate) (text : ByteString) : Type 0 where
   path : List ByteString
   word : ByteString
-  same : found ≡ Contains path word
-  spelled : Arguments (IsPathText path) (IsString word) text
+  same : found ≡ kept keeps (made path word)
+  spelled : Arguments (IsPathText path) (IsWord word) text
 
-part_arguments : (keeps : Bool) (found : Predicate) (text : ByteString) → Bracket keeps (call.Has search_for.Part) found text → PartArguments found text
-part_arguments keeps found text b =
+-- what a search of either kind has in its brackets
+abbrev HasWords : Bool → Search → (List ByteString → ByteString → Predicate) → (ByteString → ByteString → Type 0) → Type 0
+HasWords keeps s made IsWord = (p : List ByteString) (found : Predicate) (text : ByteString) → Argument keeps s p found text → Worded IsWord (λ word. kept keeps (made p word)) found text
+
+searched : (keeps : Bool) (s : Search) (made : List ByteString → ByteString → Predicate) (IsWord : ByteString → ByteString → Type 0) → HasWords keeps s made IsWord → (found : Predicate) (text : ByteString) → Bracket keeps (call.Has s) found text → Searched keeps made IsWord found text
+searched keeps s made IsWord worded found text b =
     let p = b.more in
-    let c : Then (Is (codes ",")) (Part p.path found) p.rest.back = p.rest.more in
-    let a = c.more in
+    let c : Then (Is (codes ",")) (Argument keeps s p.path found) p.rest.back = p.rest.more in
+    let a = worded p.path found c.back c.more in
     let close = a.rest.more in
     record {
       path = p.path;
       word = a.word;
       same = close.same;
-      spelled = with_more (Is (codes "(")) (Pathed keeps (path_of.Called (call.Has search_for.Part)) found) (Then (IsPathText p.path) (Then (Is (codes ",")) (Then (IsString a.word) (Is (codes ")"))))) text b
-          (with_more (IsPathText p.path) (Then (Is (codes ",")) (Part p.path found)) (Then (Is (codes ",")) (Then (IsString a.word) (Is (codes ")")))) b.back p.rest
-          (with_more (Is (codes ",")) (Part p.path found) (Then (IsString a.word) (Is (codes ")"))) p.rest.back c
-          (with_more (IsString a.word) (Close (Contains p.path a.word) found) (Is (codes ")")) c.back a.rest close.written)));
-    }
-
-record SoughtArguments (keeps : Bool) (found : Predicate) (text : ByteString) : Type 0 where
-  path : List ByteString
-  word : ByteString
-  same : found ≡ sought keeps path word
-  spelled : Arguments (IsPathText path) (IsPatternText word) text
-
-sought_arguments : (keeps : Bool) (found : Predicate) (text : ByteString) → Bracket keeps (call.Has search_for.Pattern) found text → SoughtArguments keeps found text
-sought_arguments keeps found text b =
-    let p = b.more in
-    let c : Then (Is (codes ",")) (Sought keeps p.path found) p.rest.back = p.rest.more in
-    let a = c.more in
-    let close = a.rest.more in
-    record {
-      path = p.path;
-      word = a.word;
-      same = close.same;
-      spelled = with_more (Is (codes "(")) (Pathed keeps (path_of.Called (call.Has search_for.Pattern)) found) (Then (IsPathText p.path) (Then (Is (codes ",")) (Then (IsPatternText a.word) (Is (codes ")"))))) text b
-          (with_more (IsPathText p.path) (Then (Is (codes ",")) (Sought keeps p.path found)) (Then (Is (codes ",")) (Then (IsPatternText a.word) (Is (codes ")")))) b.back p.rest
-          (with_more (Is (codes ",")) (Sought keeps p.path found) (Then (IsPatternText a.word) (Is (codes ")"))) p.rest.back c
-          (with_more (IsPatternText a.word) (Close (sought keeps p.path a.word) found) (Is (codes ")")) c.back a.rest close.written)));
+      spelled = with_more (Is (codes "(")) (Pathed keeps (path_of.Called (call.Has s)) found) (Then (IsPathText p.path) (Then (Is (codes ",")) (Then (IsWord a.word) (Is (codes ")"))))) text b
+          (with_more (IsPathText p.path) (Then (Is (codes ",")) (Argument keeps s p.path found)) (Then (Is (codes ",")) (Then (IsWord a.word) (Is (codes ")")))) b.back p.rest
+          (with_more (Is (codes ",")) (Argument keeps s p.path found) (Then (IsWord a.word) (Is (codes ")"))) p.rest.back c
+          (with_more (IsWord a.word) (Close (kept keeps (made p.path a.word)) found) (Is (codes ")")) c.back a.rest close.written)));
     }
 
 -- more of a text behind blanks
 blanks_with : (More Other : ByteString → Type 0) (text : ByteString) (bl : Blanks More text) → Other bl.back → Blanks Other text
 blanks_with More Other text bl other = record { blanks = bl.blanks; back = bl.back; blank = bl.blank; more = other; whole = bl.whole }
 
-part_predicate : (keeps : Bool) (found : Predicate) (t : ByteString) (bl : Blanks (Open keeps (call.Has search_for.Part) found) t) → Open keeps (call.Has search_for.Part) found bl.back → HasPredicate keeps found (codes "contains" ++ t)
-part_predicate keeps found t bl (inl b) =
-    let a = part_arguments keeps found bl.back b in
+-- a search of either kind, with the name of its call
+search_predicate : (keeps : Bool) (s : Search) (made : List ByteString → ByteString → Predicate) (IsWord : ByteString → ByteString → Type 0) (name : ByteString) → HasWords keeps s made IsWord
+    → ((p : List ByteString) (word text : ByteString) → Call name (Arguments (IsPathText p) (IsWord word)) text → IsPredicateText (made p word) text)
+    → (found : Predicate) (t : ByteString) (bl : Blanks (Open keeps (call.Has s) found) t) → Open keeps (call.Has s) found bl.back → HasPredicate keeps found (name ++ t)
+search_predicate keeps s made IsWord name worded spelling found t bl (inl b) =
+    let a = searched keeps s made IsWord worded found bl.back b in
+    let arguments = Arguments (IsPathText a.path) (IsWord a.word) in
     record {
-      predicate = Contains a.path a.word;
+      predicate = made a.path a.word;
       same = a.same;
-      spelled = inl (token_then (Is (codes "contains")) (Arguments (IsPathText a.path) (IsString a.word)) (codes "contains") t refl (blanks_with (Open keeps (call.Has search_for.Part) found) (Arguments (IsPathText a.path) (IsString a.word)) t bl a.spelled));
+      spelled = spelling a.path a.word (name ++ t) (inl (token_then (Is name) arguments name t refl (blanks_with (Open keeps (call.Has s) found) arguments t bl a.spelled)));
     }
-part_predicate keeps found t bl (inr m) =
-    let a = part_arguments keeps found m.back m.more in
+search_predicate keeps s made IsWord name worded spelling found t bl (inr m) =
+    let a = searched keeps s made IsWord worded found m.back m.more in
+    let arguments = Arguments (IsPathText a.path) (IsWord a.word) in
     record {
-      predicate = Contains a.path a.word;
+      predicate = made a.path a.word;
       same = a.same;
-      spelled = inr (token_then (Is (codes "contains")) (Then (Is (codes "!")) (Arguments (IsPathText a.path) (IsString a.word))) (codes "contains") t refl
-          (blanks_with (Open keeps (call.Has search_for.Part) found) (Then (Is (codes "!")) (Arguments (IsPathText a.path) (IsString a.word))) t bl
-          (with_more (Is (codes "!")) (Bracket keeps (call.Has search_for.Part) found) (Arguments (IsPathText a.path) (IsString a.word)) bl.back m a.spelled)));
-    }
-
-sought_predicate : (keeps : Bool) (found : Predicate) (t : ByteString) (bl : Blanks (Open keeps (call.Has search_for.Pattern) found) t) → Open keeps (call.Has search_for.Pattern) found bl.back → HasPredicate keeps found (codes "match" ++ t)
-sought_predicate keeps found t bl (inl b) =
-    let a = sought_arguments keeps found bl.back b in
-    record {
-      predicate = Matches a.path a.word;
-      same = a.same;
-      spelled = inl (token_then (Is (codes "match")) (Arguments (IsPathText a.path) (IsPatternText a.word)) (codes "match") t refl (blanks_with (Open keeps (call.Has search_for.Pattern) found) (Arguments (IsPathText a.path) (IsPatternText a.word)) t bl a.spelled));
-    }
-sought_predicate keeps found t bl (inr m) =
-    let a = sought_arguments keeps found m.back m.more in
-    record {
-      predicate = Matches a.path a.word;
-      same = a.same;
-      spelled = inr (token_then (Is (codes "match")) (Then (Is (codes "!")) (Arguments (IsPathText a.path) (IsPatternText a.word))) (codes "match") t refl
-          (blanks_with (Open keeps (call.Has search_for.Pattern) found) (Then (Is (codes "!")) (Arguments (IsPathText a.path) (IsPatternText a.word))) t bl
-          (with_more (Is (codes "!")) (Bracket keeps (call.Has search_for.Pattern) found) (Arguments (IsPathText a.path) (IsPatternText a.word)) bl.back m a.spelled)));
+      spelled = spelling a.path a.word (name ++ t) (inr (token_then (Is name) (Then (Is (codes "!")) arguments) name t refl
+          (blanks_with (Open keeps (call.Has s) found) (Then (Is (codes "!")) arguments) t bl (with_more (Is (codes "!")) (Bracket keeps (call.Has s) found) arguments bl.back m a.spelled))));
     }
 
 -- a predicate is a term
@@ -266,10 +235,10 @@ back_operand most r next b all text h rest =
         (land (at r (mode.Word fixed.Exists 1 (Wants (wants.Open call.Exists)))) next (λ x. Rest most x all text) e rest)))
         (λ no2 h5. pick (b == 99) r (Some (mode.Word fixed.Contains 1 (Wants (wants.Open (call.Has search_for.Part))))) (cond (b == 109) (Some (mode.Word fixed.Match 1 (Wants (wants.Open (call.Has search_for.Pattern))))) None) (good next) h5
         (λ is e. as_byte b 99 (λ x. Rest_of most r (HasPredicate r.keeps) all (x ∷ text)) is
-        (via_word most r.keeps r.frame r.outer (λ found. Blanks (Open r.keeps (call.Has search_for.Part) found)) (HasPredicate r.keeps) all fixed.Contains 99 text refl (λ found t bl. part_predicate r.keeps found t bl bl.more)
+        (via_word most r.keeps r.frame r.outer (λ found. Blanks (Open r.keeps (call.Has search_for.Part) found)) (HasPredicate r.keeps) all fixed.Contains 99 text refl (λ found t bl. search_predicate r.keeps search_for.Part Contains IsString (codes "contains") (λ p f u a. a) (λ p w u x. x) found t bl bl.more)
         (land (at r (mode.Word fixed.Contains 1 (Wants (wants.Open (call.Has search_for.Part))))) next (λ x. Rest most x all text) e rest)))
         (λ no3 h6. pick (b == 109) r (Some (mode.Word fixed.Match 1 (Wants (wants.Open (call.Has search_for.Pattern))))) None (good next) h6
         (λ is e. as_byte b 109 (λ x. Rest_of most r (HasPredicate r.keeps) all (x ∷ text)) is
-        (via_word most r.keeps r.frame r.outer (λ found. Blanks (Open r.keeps (call.Has search_for.Pattern) found)) (HasPredicate r.keeps) all fixed.Match 109 text refl (λ found t bl. sought_predicate r.keeps found t bl bl.more)
+        (via_word most r.keeps r.frame r.outer (λ found. Blanks (Open r.keeps (call.Has search_for.Pattern) found)) (HasPredicate r.keeps) all fixed.Match 109 text refl (λ found t bl. search_predicate r.keeps search_for.Pattern Matches IsPatternText (codes "match") (λ p f u a. a) (λ p w u x. x) found t bl bl.more)
         (land (at r (mode.Word fixed.Match 1 (Wants (wants.Open (call.Has search_for.Pattern))))) next (λ x. Rest most x all text) e rest)))
         (λ no4 e. bad stop.Refused next e))))

@@ -4,7 +4,7 @@ use Rattle.std.proofs.lemmas.Bool.{and_parts, and_from, eqb-false}
 use Rattle.vx_value.specs.Texts.{ByteString}
 use Rattle.vx_condition.specs.Trees.{Disjunction}
 use Rattle.vx_condition.specs.Grammar.{is_blank, is_digit, number_behind}
-use Rattle.vx_condition.specs.PathSteps.{path_step}
+use Rattle.vx_value.specs.Paths.{move_of}
 use Rattle.vx_condition.specs.Moves.{at, stated, with_number, signed, fits, behind_path, expected, behind_blanks, or_equal}
 use Rattle.vx_condition.specs.declared.comparison.Comparison.{Comparison}
 use Rattle.vx_condition.specs.declared.predicate.Predicate.{Predicate}
@@ -145,7 +145,7 @@ back_moved most r next (mode.Word w read behind) b all text fit h rest = back_wo
 back_moved most r next (mode.Path use_of p name names) b all text fit h rest =
     back_in_path most r next use_of p name names b all text
     (λ n e x. back_blanks most r n (behind_path use_of (names ++ name ∷ [])) b all text (fit_behind_path r.frame use_of (names ++ name ∷ [])) e x)
-    (path_step p (length name == 0) b) refl h rest
+    (move_of p (length name == 0) b) refl h rest
 back_moved most r next (mode.Text use_of false held) b all text fit h rest = back_text most r next use_of held b all text h rest
 back_moved most r next (mode.Text use_of true held) b all text fit h rest = back_escape most r next use_of held b all text h rest
 back_moved most r next (mode.Mark p) b all text fit h rest = back_mark most r next p b all text h rest

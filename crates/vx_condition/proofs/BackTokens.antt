@@ -9,17 +9,16 @@ use Rattle.vx_value.specs.Paths.{move_of, ends_path, carry, names_from}
 use Rattle.vx_condition.specs.Trees.{Disjunction}
 use Rattle.vx_condition.specs.Grammar.{escaped, before_rest, quoted}
 use Rattle.vx_condition.specs.Words.{letters_of}
-use Rattle.vx_condition.specs.PathSteps.{path_step, may_end}
 use Rattle.vx_condition.specs.Moves.{at, stated, equal_to, behind_path, behind_blanks, in_word, arrived, in_text, behind_text, with_escape, in_pattern, in_path, sought}
 use Rattle.vx_condition.specs.declared.literal.Literal.TheVariants as literal
 use Rattle.vx_condition.specs.declared.predicate.Predicate.{Predicate}
 use Rattle.vx_condition.specs.declared.predicate.Predicate.TheVariants.{Contains}
 use Rattle.vx_condition.specs.declared.call.Call.TheVariants as call
 use Rattle.vx_condition.specs.declared.fixed_word.FixedWord.{FixedWord}
-use Rattle.vx_condition.specs.declared.path_place.PathPlace.{PathPlace}
-use Rattle.vx_condition.specs.declared.path_place.PathPlace.TheVariants as place
-use Rattle.vx_condition.specs.declared.path_place.PathStep.{PathStep}
-use Rattle.vx_condition.specs.declared.path_place.PathStep.TheVariants as step_of
+use Rattle.vx_value.specs.declared.path_mode.PathMode.{PathMode}
+use Rattle.vx_value.specs.declared.path_mode.PathMode.TheVariants as place
+use Rattle.vx_value.specs.declared.path_mode.PathMove.{PathMove}
+use Rattle.vx_value.specs.declared.path_mode.PathMove.TheVariants as move
 use Rattle.vx_condition.specs.declared.expected.Expected.TheVariants as wants
 use Rattle.vx_condition.specs.declared.mode.Behind.{Behind}
 use Rattle.vx_condition.specs.declared.mode.Behind.TheVariants.{Wants, Done}
@@ -30,7 +29,7 @@ use Rattle.vx_condition.specs.declared.mode.TextUse.TheVariants as text_of
 use Rattle.vx_condition.specs.declared.mode.Mode.TheVariants as mode
 use Rattle.vx_condition.specs.declared.reader.Reader.{Reader}
 use Rattle.vx_condition.specs.declared.stop.Stop.TheVariants as stop
-use Rattle.vx_condition.proofs.PathRuns.{mode_of, move_for, same_move, no_bytes}
+use Rattle.vx_condition.proofs.PathRuns.{no_bytes}
 use Rattle.vx_condition.proofs.Rests.{Blanks, Close, BehindPath, InWord, InPath, BehindText, InText, InEscape, InPattern, InMark, RestExpected, RestBehind, Rest}
 use Rattle.vx_condition.proofs.Backs.{good, wrong, split, land, bad, as_byte, via, same_text, Rest_of}
 
@@ -65,32 +64,24 @@ back_word most r next w read behind b all text h rest =
     (λ no_ e. bad stop.Refused next e)
 
 -- ---- a path
-named_step : (p : PathPlace) (name : ByteString) (b : ℕ) (front : ByteString) (s : PathStep) → path_step p (length name == 0) b ≡ s
-    → names_from (mode_of p) name (b ∷ front) ≡ carry (move_for s) name b (λ m n. names_from m n front)
-named_step p name b front s e =
-    ap (λ v. carry v name b (λ m n. names_from m n front)) (ap (λ t. move_of (mode_of p) t b) (no_bytes name) ∙ same_move p (length name == 0) b ∙ ap move_for e)
+named_step : (p : PathMode) (name : ByteString) (b : ℕ) (front : ByteString) (s : PathMove) → move_of p (length name == 0) b ≡ s
+    → names_from p name (b ∷ front) ≡ carry s name b (λ m n. names_from m n front)
+named_step p name b front s e = ap (λ v. carry v name b (λ m n. names_from m n front)) (ap (λ t. move_of p t b) (no_bytes name) ∙ e)
 
-ends_there : (p : PathPlace) → may_end p ≡ true → ends_path (mode_of p) ≡ true
-ends_there place.Name h = absurd (cc)
-ends_there place.Bare h = refl
-ends_there place.Quoted h = absurd (cc)
-ends_there place.Escaped h = absurd (cc)
-ends_there place.Closed h = refl
+only_name : (p : PathMode) (name : ByteString) → ends_path p ≡ true → names_from p name [] ≡ Some (name ∷ [])
+only_name p name h = ap (λ t. cond t (Some (name ∷ [])) None) h
 
-only_name : (p : PathPlace) (name : ByteString) → may_end p ≡ true → names_from (mode_of p) name [] ≡ Some (name ∷ [])
-only_name p name h = ap (λ t. cond t (Some (name ∷ [])) None) (ends_there p h)
-
-added_name : (keeps : Bool) (use_of : PathUse) (p q : PathPlace) (name : ByteString) (names : List ByteString) (b : ℕ) (found : Predicate) (t : ByteString) → path_step p (length name == 0) b ≡ step_of.Adds q
+added_name : (keeps : Bool) (use_of : PathUse) (p q : PathMode) (name : ByteString) (names : List ByteString) (b : ℕ) (found : Predicate) (t : ByteString) → move_of p (length name == 0) b ≡ move.Adds q
     → InPath keeps use_of q (name ++ b ∷ []) names found t → InPath keeps use_of p name names found (b ∷ t)
 added_name keeps use_of p q name names b found t e ip =
-    record { front = b ∷ ip.front; back = ip.back; others = ip.others; named = named_step p name b ip.front (step_of.Adds q) e ∙ ip.named; few = ip.few; more = ip.more; whole = ap (λ u. b ∷ u) ip.whole }
+    record { front = b ∷ ip.front; back = ip.back; others = ip.others; named = named_step p name b ip.front (move.Adds q) e ∙ ip.named; few = ip.few; more = ip.more; whole = ap (λ u. b ∷ u) ip.whole }
 
-passed_name : (keeps : Bool) (use_of : PathUse) (p q : PathPlace) (name : ByteString) (names : List ByteString) (b : ℕ) (found : Predicate) (t : ByteString) → path_step p (length name == 0) b ≡ step_of.Passes q
+passed_name : (keeps : Bool) (use_of : PathUse) (p q : PathMode) (name : ByteString) (names : List ByteString) (b : ℕ) (found : Predicate) (t : ByteString) → move_of p (length name == 0) b ≡ move.Passes q
     → InPath keeps use_of q name names found t → InPath keeps use_of p name names found (b ∷ t)
 passed_name keeps use_of p q name names b found t e ip =
-    record { front = b ∷ ip.front; back = ip.back; others = ip.others; named = named_step p name b ip.front (step_of.Passes q) e ∙ ip.named; few = ip.few; more = ip.more; whole = ap (λ u. b ∷ u) ip.whole }
+    record { front = b ∷ ip.front; back = ip.back; others = ip.others; named = named_step p name b ip.front (move.Passes q) e ∙ ip.named; few = ip.few; more = ip.more; whole = ap (λ u. b ∷ u) ip.whole }
 
-ended_name : (keeps : Bool) (use_of : PathUse) (p : PathPlace) (name : ByteString) (names : List ByteString) (b : ℕ) (found : Predicate) (t : ByteString) → path_step p (length name == 0) b ≡ step_of.Ends
+ended_name : (keeps : Bool) (use_of : PathUse) (p : PathMode) (name : ByteString) (names : List ByteString) (b : ℕ) (found : Predicate) (t : ByteString) → move_of p (length name == 0) b ≡ move.Ends
     → InPath keeps use_of place.Name [] (names ++ name ∷ []) found t → InPath keeps use_of p name names found (b ∷ t)
 ended_name keeps use_of p name names b found t e ip =
     let regrouped : (names ++ name ∷ []) ++ ip.others ≡ names ++ (name ∷ ip.others) = append_assoc names (name ∷ []) ip.others in
@@ -98,13 +89,13 @@ ended_name keeps use_of p name names b found t e ip =
       front = b ∷ ip.front;
       back = ip.back;
       others = name ∷ ip.others;
-      named = named_step p name b ip.front step_of.Ends e ∙ ap (λ o. option_map (λ ns. name ∷ ns) o) ip.named;
+      named = named_step p name b ip.front move.Ends e ∙ ap (λ o. option_map (λ ns. name ∷ ns) o) ip.named;
       few = subst (λ ns. length ns ≤ 31) regrouped ip.few;
       more = subst (λ ns. Blanks (BehindPath keeps use_of ns found) ip.back) regrouped ip.more;
       whole = ap (λ u. b ∷ u) ip.whole;
     }
 
-whole_name : (keeps : Bool) (use_of : PathUse) (p : PathPlace) (name : ByteString) (names : List ByteString) (found : Predicate) (t : ByteString) → may_end p ≡ true → length names < 31
+whole_name : (keeps : Bool) (use_of : PathUse) (p : PathMode) (name : ByteString) (names : List ByteString) (found : Predicate) (t : ByteString) → ends_path p ≡ true → length names < 31
     → Blanks (BehindPath keeps use_of (names ++ name ∷ []) found) t → InPath keeps use_of p name names found t
 whole_name keeps use_of p name names found t may few bl =
     record { front = []; back = t; others = name ∷ []; named = only_name p name may; few = omega (arith, few, length-append names (name ∷ [])); more = bl; whole = refl }
@@ -115,26 +106,26 @@ behind_path_rest most r path_of.Compared p all text rest = rest
 behind_path_rest most r (path_of.Called call.Exists) p all text rest = rest
 behind_path_rest most r (path_of.Called (call.Has s)) p all text rest = rest
 
-pub back_in_path : (most : ℕ) (r next : Reader) (use_of : PathUse) (p : PathPlace) (name : ByteString) (names : List ByteString) (b : ℕ) (all : Disjunction) (text : ByteString)
+pub back_in_path : (most : ℕ) (r next : Reader) (use_of : PathUse) (p : PathMode) (name : ByteString) (names : List ByteString) (b : ℕ) (all : Disjunction) (text : ByteString)
     → ((n : Reader) → behind_blanks most r (behind_path use_of (names ++ name ∷ [])) b ≡ good n → Rest most n all text → RestExpected most r.keeps r.frame r.outer (behind_path use_of (names ++ name ∷ [])) all (b ∷ text))
-    → (s : PathStep) → path_step p (length name == 0) b ≡ s
+    → (s : PathMove) → move_of p (length name == 0) b ≡ s
     → in_path most r use_of p name names b s ≡ good next → Rest most next all text → Rest_of most r (InPath r.keeps use_of p name names) all (b ∷ text)
-back_in_path most r next use_of p name names b all text behind (step_of.Adds q) e h rest =
+back_in_path most r next use_of p name names b all text behind (move.Adds q) e h rest =
     via most r.keeps r.frame r.outer (InPath r.keeps use_of q (name ++ b ∷ []) names) (InPath r.keeps use_of p name names) all b text (λ found t ip. added_name r.keeps use_of p q name names b found t e ip)
     (land (at r (mode.Path use_of q (name ++ b ∷ []) names)) next (λ x. Rest most x all text) h rest)
-back_in_path most r next use_of p name names b all text behind (step_of.Passes q) e h rest =
+back_in_path most r next use_of p name names b all text behind (move.Passes q) e h rest =
     via most r.keeps r.frame r.outer (InPath r.keeps use_of q name names) (InPath r.keeps use_of p name names) all b text (λ found t ip. passed_name r.keeps use_of p q name names b found t e ip)
     (land (at r (mode.Path use_of q name names)) next (λ x. Rest most x all text) h rest)
-back_in_path most r next use_of p name names b all text behind step_of.Ends e h rest =
+back_in_path most r next use_of p name names b all text behind move.Ends e h rest =
     split (nat_lt (length names) 30) (good (at r (mode.Path use_of place.Name [] (names ++ name ∷ [])))) (wrong stop.Refused) (good next) h
     (λ is e1. via most r.keeps r.frame r.outer (InPath r.keeps use_of place.Name [] (names ++ name ∷ [])) (InPath r.keeps use_of p name names) all b text (λ found t ip. ended_name r.keeps use_of p name names b found t e ip)
     (land (at r (mode.Path use_of place.Name [] (names ++ name ∷ []))) next (λ x. Rest most x all text) e1 rest))
     (λ no_ e1. bad stop.Refused next e1)
-back_in_path most r next use_of p name names b all text behind step_of.Refused e h rest =
-    split (may_end p && nat_lt (length names) 31 && nat_lt b 128) (behind_blanks most r (behind_path use_of (names ++ name ∷ [])) b) (wrong stop.Refused) (good next) h
+back_in_path most r next use_of p name names b all text behind move.Refused e h rest =
+    split (ends_path p && nat_lt (length names) 31 && nat_lt b 128) (behind_blanks most r (behind_path use_of (names ++ name ∷ [])) b) (wrong stop.Refused) (good next) h
     (λ is e1.
-    let both = and_parts (may_end p && nat_lt (length names) 31) (nat_lt b 128) is in
-    let first = and_parts (may_end p) (nat_lt (length names) 31) both.0 in
+    let both = and_parts (ends_path p && nat_lt (length names) 31) (nat_lt b 128) is in
+    let first = and_parts (ends_path p) (nat_lt (length names) 31) both.0 in
     same_text most r.keeps r.frame r.outer (λ found. Blanks (BehindPath r.keeps use_of (names ++ name ∷ []) found)) (InPath r.keeps use_of p name names) all (b ∷ text)
     (λ found t bl. whole_name r.keeps use_of p name names found t first.0 (ltb-true (length names) 31 first.1) bl)
     (behind_path_rest most r use_of (names ++ name ∷ []) all (b ∷ text) (behind next e1 rest)))

@@ -23,7 +23,7 @@ use Rattle.vx_condition.specs.declared.call.Search.{Search}
 use Rattle.vx_condition.specs.declared.call.Search.TheVariants as search_for
 use Rattle.vx_condition.specs.declared.fixed_word.FixedWord.{FixedWord}
 use Rattle.vx_condition.specs.declared.fixed_word.FixedWord.TheVariants as fixed
-use Rattle.vx_condition.specs.declared.path_place.PathPlace.TheVariants as place
+use Rattle.vx_value.specs.declared.path_mode.PathMode.TheVariants as place
 use Rattle.vx_condition.specs.declared.expected.Expected.TheVariants as wants
 use Rattle.vx_condition.specs.declared.mode.Behind.TheVariants.{Wants, Done}
 use Rattle.vx_condition.specs.declared.mode.PathUse.{PathUse}

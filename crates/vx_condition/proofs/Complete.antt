@@ -84,12 +84,8 @@ complete most keeps d text is few =
     ∙ over_disjunction d most keeps 0 [] [] text [] is refl (omega (arith, few))
 
 kept-predicate : (p : Predicate) → kept true p ≡ p
-kept-predicate (Equal p l) = refl
-kept-predicate (Different p l) = refl
-kept-predicate (Compared p c z) = refl
-kept-predicate (Exists p) = refl
-kept-predicate (Contains p w) = refl
 kept-predicate (Matches p q) = refl
+kept-predicate p = refl
 
 mutual
   kept-term : (t : Term) → kept_term true t ≡ t

@@ -5,7 +5,7 @@ use Rattle.std.proofs.lemmas.Bool.{and_parts, eqb-false}
 use Rattle.vx_value.specs.Texts.{ByteString}
 use Rattle.vx_condition.specs.Grammar.{is_blank, is_digit, escaped}
 use Rattle.vx_condition.specs.Words.{letters_of}
-use Rattle.vx_condition.specs.PathSteps.{path_step, may_end}
+use Rattle.vx_value.specs.Paths.{begins_name, goes_on, name_move, move_of, ends_path}
 use Rattle.vx_condition.specs.Moves.{at, at_some, stated, equal_to, with_number, signed, fits, operator_mode, literal_mode, word_mode, number_mode, begins_number, behind_path, with_term, expected, behind_blanks, in_word, arrived, in_text, behind_text, with_escape, in_pattern, in_path, sought, or_equal, may_be_marked}
 use Rattle.vx_condition.specs.declared.comparison.Comparison.{Comparison}
 use Rattle.vx_condition.specs.declared.comparison.Comparison.TheVariants.{Less, Greater}
@@ -21,10 +21,10 @@ use Rattle.vx_condition.specs.declared.call.Search.{Search}
 use Rattle.vx_condition.specs.declared.call.Search.TheVariants as search_for
 use Rattle.vx_condition.specs.declared.fixed_word.FixedWord.{FixedWord}
 use Rattle.vx_condition.specs.declared.fixed_word.FixedWord.TheVariants as fixed
-use Rattle.vx_condition.specs.declared.path_place.PathPlace.{PathPlace}
-use Rattle.vx_condition.specs.declared.path_place.PathPlace.TheVariants as place
-use Rattle.vx_condition.specs.declared.path_place.PathStep.{PathStep}
-use Rattle.vx_condition.specs.declared.path_place.PathStep.TheVariants as step_of
+use Rattle.vx_value.specs.declared.path_mode.PathMode.{PathMode}
+use Rattle.vx_value.specs.declared.path_mode.PathMode.TheVariants as place
+use Rattle.vx_value.specs.declared.path_mode.PathMove.{PathMove}
+use Rattle.vx_value.specs.declared.path_mode.PathMove.TheVariants as move
 use Rattle.vx_condition.specs.declared.expected.Expected.{Expected}
 use Rattle.vx_condition.specs.declared.expected.Expected.TheVariants as wants
 use Rattle.vx_condition.specs.declared.mode.Behind.{Behind}
@@ -45,7 +45,6 @@ use Rattle.std.specs.Str.{IsUtf8}
 use Rattle.std.proofs.lemmas.Str.{IsUtf8-append, IsUtf8-from_ascii}
 use Rattle.std.proofs.lemmas.Bool.{or_cases}
 use Rattle.vx_value.proofs.PathReads.{utf8-left, utf8-right}
-use Rattle.vx_value.specs.Paths.{begins_name, goes_on}
 use Rattle.vx_condition.specs.Moves.{held_by}
 use Rattle.vx_condition.proofs.PathSteps.{ends_low}
 use Rattle.vx_condition.proofs.Backs.{good, wrong, split, pick, bad}
@@ -282,21 +281,29 @@ fell_in_word r next w read behind b fit h =
     (λ no_ e. bad stop.Refused next e)
 
 -- only bytes of ASCII are passed in a path
-passes_low : (p q : PathPlace) (none : Bool) (b : ℕ) → path_step p none b ≡ step_of.Passes q → b < 128
-passes_low place.Name q none b e = go (b == 34) refl e
+passes_first : (q : PathMode) (b : ℕ) → name_move b ≡ move.Passes q → b < 128
+passes_first q b e = go (b == 34) refl e
   where
-    go : (t : Bool) → (b == 34) ≡ t → cond t (step_of.Passes place.Quoted) (cond (begins_name b) (step_of.Adds place.Bare) step_of.Refused) ≡ step_of.Passes q → b < 128
+    go : (t : Bool) → (b == 34) ≡ t → cond t (move.Passes place.Quoted) (cond (begins_name b) (move.Adds place.Bare) move.Refused) ≡ move.Passes q → b < 128
     go true h e = lowed b 34 h (omega arith)
-    go false h e = split (begins_name b) (step_of.Adds place.Bare) step_of.Refused (step_of.Passes q) e (λ is x. absurd (cc)) (λ no_ x. absurd (cc))
+    go false h e = split (begins_name b) (move.Adds place.Bare) move.Refused (move.Passes q) e (λ is x. absurd (cc)) (λ no_ x. absurd (cc))
+
+passes_low : (p q : PathMode) (none : Bool) (b : ℕ) → move_of p none b ≡ move.Passes q → b < 128
+passes_low place.Start q none b e = go (b == 46) refl e
+  where
+    go : (t : Bool) → (b == 46) ≡ t → cond t (move.Passes place.Name) (name_move b) ≡ move.Passes q → b < 128
+    go true h e = lowed b 46 h (omega arith)
+    go false h e = passes_first q b e
+passes_low place.Name q none b e = passes_first q b e
 passes_low place.Bare q none b e =
-    split (goes_on b) (step_of.Adds place.Bare) (cond (b == 46) step_of.Ends step_of.Refused) (step_of.Passes q) e (λ is x. absurd (cc))
-    (λ no_ x. split (b == 46) step_of.Ends step_of.Refused (step_of.Passes q) x (λ is y. absurd (cc)) (λ no2 y. absurd (cc)))
+    split (goes_on b) (move.Adds place.Bare) (cond (b == 46) move.Ends move.Refused) (move.Passes q) e (λ is x. absurd (cc))
+    (λ no_ x. split (b == 46) move.Ends move.Refused (move.Passes q) x (λ is y. absurd (cc)) (λ no2 y. absurd (cc)))
 passes_low place.Quoted q none b e =
-    split (b == 92) (step_of.Passes place.Escaped) (cond (b == 34) (cond none step_of.Refused (step_of.Passes place.Closed)) (step_of.Adds place.Quoted)) (step_of.Passes q) e
+    split (b == 92) (move.Passes place.Escaped) (cond (b == 34) (cond none move.Refused (move.Passes place.Closed)) (move.Adds place.Quoted)) (move.Passes q) e
     (λ is x. lowed b 92 is (omega arith))
-    (λ no_ x. split (b == 34) (cond none step_of.Refused (step_of.Passes place.Closed)) (step_of.Adds place.Quoted) (step_of.Passes q) x (λ is y. lowed b 34 is (omega arith)) (λ no2 y. absurd (cc)))
-passes_low place.Escaped q none b e = split ((b == 34) || (b == 92)) (step_of.Adds place.Quoted) step_of.Refused (step_of.Passes q) e (λ is x. absurd (cc)) (λ no_ x. absurd (cc))
-passes_low place.Closed q none b e = split (b == 46) step_of.Ends step_of.Refused (step_of.Passes q) e (λ is x. absurd (cc)) (λ no_ x. absurd (cc))
+    (λ no_ x. split (b == 34) (cond none move.Refused (move.Passes place.Closed)) (move.Adds place.Quoted) (move.Passes q) x (λ is y. lowed b 34 is (omega arith)) (λ no2 y. absurd (cc)))
+passes_low place.Escaped q none b e = split ((b == 34) || (b == 92)) (move.Adds place.Quoted) move.Refused (move.Passes q) e (λ is x. absurd (cc)) (λ no_ x. absurd (cc))
+passes_low place.Closed q none b e = split (b == 46) move.Ends move.Refused (move.Passes q) e (λ is x. absurd (cc)) (λ no_ x. absurd (cc))
 
 no_argument : (use_of : PathUse) (names p : List ByteString) → behind_path use_of names ≡ wants.Argument search_for.Pattern p → ⊥
 no_argument path_of.Compared names p e = cc
@@ -308,19 +315,19 @@ fit_behind f path_of.Compared p = tt
 fit_behind f (path_of.Called call.Exists) p = tt
 fit_behind f (path_of.Called (call.Has s)) p = tt
 
-leapt_path : (most : ℕ) (r next : Reader) (use_of : PathUse) (p : PathPlace) (name : ByteString) (names : List ByteString) (b : ℕ) → length names ≤ 30 → (s : PathStep) → path_step p (length name == 0) b ≡ s
+leapt_path : (most : ℕ) (r next : Reader) (use_of : PathUse) (p : PathMode) (name : ByteString) (names : List ByteString) (b : ℕ) → length names ≤ 30 → (s : PathMove) → move_of p (length name == 0) b ≡ s
     → in_path most r use_of p name names b s ≡ good next → Leapt (mode.Path use_of p name names) b next
-leapt_path most r next use_of p name names b few (step_of.Adds q) e h =
+leapt_path most r next use_of p name names b few (move.Adds q) e h =
     reach (at r (mode.Path use_of q (name ++ b ∷ []) names)) next (λ x. Leapt (mode.Path use_of p name names) b x) h (record { leap = adds refl tt; fit = few })
-leapt_path most r next use_of p name names b few (step_of.Passes q) e h =
+leapt_path most r next use_of p name names b few (move.Passes q) e h =
     reach (at r (mode.Path use_of q name names)) next (λ x. Leapt (mode.Path use_of p name names) b x) h (record { leap = passes (passes_low p q (length name == 0) b e) refl tt; fit = few })
-leapt_path most r next use_of p name names b few step_of.Ends e h =
+leapt_path most r next use_of p name names b few move.Ends e h =
     split (nat_lt (length names) 30) (good (at r (mode.Path use_of place.Name [] (names ++ name ∷ [])))) (wrong stop.Refused) (good next) h
     (λ is g. dropped (mode.Path use_of p name names) b next (fell (at r (mode.Path use_of place.Name [] (names ++ name ∷ []))) next b g (ends_low p (length name == 0) b e) refl tt
     (omega (arith, ltb-true (length names) 30 is, length-append names (name ∷ [])))))
     (λ no_ g. bad stop.Refused next g)
-leapt_path most r next use_of p name names b few step_of.Refused e h =
-    split (may_end p && nat_lt (length names) 31 && nat_lt b 128) (behind_blanks most r (behind_path use_of (names ++ name ∷ [])) b) (wrong stop.Refused) (good next) h
+leapt_path most r next use_of p name names b few move.Refused e h =
+    split (ends_path p && nat_lt (length names) 31 && nat_lt b 128) (behind_blanks most r (behind_path use_of (names ++ name ∷ [])) b) (wrong stop.Refused) (good next) h
     (λ is g. dropped (mode.Path use_of p name names) b next (outcome_fell (behind_path use_of (names ++ name ∷ [])) b next (λ q x. no_argument use_of (names ++ name ∷ []) q x)
     (came_behind most r next (behind_path use_of (names ++ name ∷ [])) b (fit_behind r.frame use_of (names ++ name ∷ [])) g)))
     (λ no_ g. bad stop.Refused next g)
@@ -425,7 +432,7 @@ leapt_at most r next mode.Start b fit h =
 leapt_at most r next (mode.Expects e) b fit h = outcome_leap e b next (came_behind most r next e b fit h)
 leapt_at most r next mode.Complete b fit h = dropped mode.Complete b next (fell_behind_operand r next b fit h)
 leapt_at most r next (mode.Word w read behind) b fit h = dropped (mode.Word w read behind) b next (fell_in_word r next w read behind b fit h)
-leapt_at most r next (mode.Path use_of p name names) b fit h = leapt_path most r next use_of p name names b fit (path_step p (length name == 0) b) refl h
+leapt_at most r next (mode.Path use_of p name names) b fit h = leapt_path most r next use_of p name names b fit (move_of p (length name == 0) b) refl h
 leapt_at most r next (mode.Text use_of false held) b fit h = leapt_text r next use_of held b h
 leapt_at most r next (mode.Text use_of true held) b fit h = leapt_escape r next use_of held b (escaped b) refl h
 leapt_at most r next (mode.Mark p) b fit h = leapt_mark r next p b h

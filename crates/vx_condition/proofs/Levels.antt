@@ -3,16 +3,16 @@ use Rattle.std.proofs.Common.{◌≡◌, ℕ, suc, ◌+◌, ◌-◌, ◌*◌, �
 use Rattle.vx_value.specs.Texts.{ByteString}
 use Rattle.vx_condition.specs.Grammar.{is_blank, is_digit, escaped}
 use Rattle.vx_condition.specs.Words.{letters_of}
-use Rattle.vx_condition.specs.PathSteps.{path_step, may_end}
+use Rattle.vx_value.specs.Paths.{move_of, ends_path}
 use Rattle.vx_condition.specs.Moves.{at, at_some, stated, with_number, signed, fits, operator_mode, literal_mode, argument_mode, behind_path, expected, behind_blanks, arrived, behind_text, with_escape, in_path, sought, or_equal, may_be_marked}
 use Rattle.vx_condition.specs.declared.operator.Operator.TheVariants as operator
 use Rattle.vx_condition.specs.declared.call.Call.TheVariants as call
 use Rattle.vx_condition.specs.declared.fixed_word.FixedWord.{FixedWord}
 use Rattle.vx_condition.specs.declared.fixed_word.FixedWord.TheVariants as fixed
-use Rattle.vx_condition.specs.declared.path_place.PathPlace.{PathPlace}
-use Rattle.vx_condition.specs.declared.path_place.PathPlace.TheVariants as place
-use Rattle.vx_condition.specs.declared.path_place.PathStep.{PathStep}
-use Rattle.vx_condition.specs.declared.path_place.PathStep.TheVariants as step_of
+use Rattle.vx_value.specs.declared.path_mode.PathMode.{PathMode}
+use Rattle.vx_value.specs.declared.path_mode.PathMode.TheVariants as place
+use Rattle.vx_value.specs.declared.path_mode.PathMove.{PathMove}
+use Rattle.vx_value.specs.declared.path_mode.PathMove.TheVariants as move
 use Rattle.vx_condition.specs.declared.expected.Expected.{Expected}
 use Rattle.vx_condition.specs.declared.expected.Expected.TheVariants as wants
 use Rattle.vx_condition.specs.declared.mode.Behind.{Behind}
@@ -68,13 +68,13 @@ under_first : (t : Bool) (x z y v : Result Reader Stop) → (x ≡ v → z ≡ v
 under_first true x z y v f h = f h
 under_first false x z y v f h = h
 
-path_more : (m n : ℕ) (r : Reader) (use_of : PathUse) (p : PathPlace) (name : ByteString) (names : List ByteString) (b : ℕ) (s : PathStep) (v : Result Reader Stop) → m ≤ n → (v ≡ wrong stop.Deep → ⊥)
+path_more : (m n : ℕ) (r : Reader) (use_of : PathUse) (p : PathMode) (name : ByteString) (names : List ByteString) (b : ℕ) (s : PathMove) (v : Result Reader Stop) → m ≤ n → (v ≡ wrong stop.Deep → ⊥)
     → in_path m r use_of p name names b s ≡ v → in_path n r use_of p name names b s ≡ v
-path_more m n r use_of p name names b (step_of.Adds q) v le f h = h
-path_more m n r use_of p name names b (step_of.Passes q) v le f h = h
-path_more m n r use_of p name names b step_of.Ends v le f h = h
-path_more m n r use_of p name names b step_of.Refused v le f h =
-    under_first (may_end p && nat_lt (length names) 31 && nat_lt b 128) (behind_blanks m r (behind_path use_of (names ++ name ∷ [])) b) (behind_blanks n r (behind_path use_of (names ++ name ∷ [])) b) (wrong stop.Refused) v
+path_more m n r use_of p name names b (move.Adds q) v le f h = h
+path_more m n r use_of p name names b (move.Passes q) v le f h = h
+path_more m n r use_of p name names b move.Ends v le f h = h
+path_more m n r use_of p name names b move.Refused v le f h =
+    under_first (ends_path p && nat_lt (length names) 31 && nat_lt b 128) (behind_blanks m r (behind_path use_of (names ++ name ∷ [])) b) (behind_blanks n r (behind_path use_of (names ++ name ∷ [])) b) (wrong stop.Refused) v
     (λ g. behind_more m n r (behind_path use_of (names ++ name ∷ [])) b v le f g) h
 
 moved_more : (m n : ℕ) (r : Reader) (k : Mode) (b : ℕ) (v : Result Reader Stop) → m ≤ n → (v ≡ wrong stop.Deep → ⊥) → moved m r k b ≡ v → moved n r k b ≡ v
@@ -82,7 +82,7 @@ moved_more m n r mode.Start b v le f h = under (is_blank b) (wrong stop.Refused)
 moved_more m n r (mode.Expects e) b v le f h = behind_more m n r e b v le f h
 moved_more m n r mode.Complete b v le f h = h
 moved_more m n r (mode.Word w read behind) b v le f h = h
-moved_more m n r (mode.Path use_of p name names) b v le f h = path_more m n r use_of p name names b (path_step p (length name == 0) b) v le f h
+moved_more m n r (mode.Path use_of p name names) b v le f h = path_more m n r use_of p name names b (move_of p (length name == 0) b) v le f h
 moved_more m n r (mode.Text use_of t held) b v le f h = h
 moved_more m n r (mode.Mark p) b v le f h = h
 moved_more m n r (mode.Pattern p held) b v le f h = h
@@ -165,12 +165,12 @@ no_operand path_of.Compared names e = cc
 no_operand (path_of.Called call.Exists) names e = cc
 no_operand (path_of.Called (call.Has s)) names e = cc
 
-tame_path : (most : ℕ) (r : Reader) (D : Type 0) (use_of : PathUse) (p : PathPlace) (name : ByteString) (names : List ByteString) (b : ℕ) (s : PathStep) → Tame r.keeps D (in_path most r use_of p name names b s)
-tame_path most r D use_of p name names b (step_of.Adds q) = refl
-tame_path most r D use_of p name names b (step_of.Passes q) = refl
-tame_path most r D use_of p name names b step_of.Ends = tame_cond r.keeps D (nat_lt (length names) 30) (good (at r (mode.Path use_of place.Name [] (names ++ name ∷ [])))) (wrong stop.Refused) refl tt
-tame_path most r D use_of p name names b step_of.Refused =
-    tame_cond r.keeps D (may_end p && nat_lt (length names) 31 && nat_lt b 128) (behind_blanks most r (behind_path use_of (names ++ name ∷ [])) b) (wrong stop.Refused)
+tame_path : (most : ℕ) (r : Reader) (D : Type 0) (use_of : PathUse) (p : PathMode) (name : ByteString) (names : List ByteString) (b : ℕ) (s : PathMove) → Tame r.keeps D (in_path most r use_of p name names b s)
+tame_path most r D use_of p name names b (move.Adds q) = refl
+tame_path most r D use_of p name names b (move.Passes q) = refl
+tame_path most r D use_of p name names b move.Ends = tame_cond r.keeps D (nat_lt (length names) 30) (good (at r (mode.Path use_of place.Name [] (names ++ name ∷ [])))) (wrong stop.Refused) refl tt
+tame_path most r D use_of p name names b move.Refused =
+    tame_cond r.keeps D (ends_path p && nat_lt (length names) 31 && nat_lt b 128) (behind_blanks most r (behind_path use_of (names ++ name ∷ [])) b) (wrong stop.Refused)
     (tame_blanks most r D (behind_path use_of (names ++ name ∷ [])) b (λ e. absurd (no_operand use_of (names ++ name ∷ []) e))) tt
 
 tame_escape : (r : Reader) (D : Type 0) (use_of : TextUse) (held : ByteString) (o : Option ℕ) → Tame r.keeps D (with_escape r use_of held o)
@@ -184,7 +184,7 @@ tame_moved most r D mode.Complete b f g = tame_behind r D b
 tame_moved most r D (mode.Word w read behind) b f g =
     tame_cond r.keeps D (nat_lt read (length (letters_of w)) && (b == get_or (letters_of w) read 0)) (good (cond (read + 1 == length (letters_of w)) (arrived r behind) (at r (mode.Word w (read + 1) behind)))) (wrong stop.Refused)
     (keeps_letter r w read behind (read + 1 == length (letters_of w))) tt
-tame_moved most r D (mode.Path use_of p name names) b f g = tame_path most r D use_of p name names b (path_step p (length name == 0) b)
+tame_moved most r D (mode.Path use_of p name names) b f g = tame_path most r D use_of p name names b (move_of p (length name == 0) b)
 tame_moved most r D (mode.Text use_of false held) b f g =
     tame_cond r.keeps D (b == 34) (good (behind_text r use_of held)) (cond (b == 92) (good (at r (mode.Text use_of true held))) (good (at r (mode.Text use_of false (held ++ b ∷ []))))) (keeps_behind_text r use_of held)
     (tame_cond r.keeps D (b == 92) (good (at r (mode.Text use_of true held))) (good (at r (mode.Text use_of false (held ++ b ∷ [])))) refl refl)

@@ -1,20 +1,15 @@
 -- How a reader goes over a path.
-use Rattle.std.proofs.Common.{◌≡◌, ℕ, ◌<◌, ◌≤◌, Bool, true, false, cond, not, ◌==◌, ◌&&◌, ◌||◌, Option, Some, None, Ok, Err, List, [], ◌∷◌, ◌++◌, length, refl, sym, ◌∙◌, ap, append_assoc, arith, nat_lt, lt-ltb, ne_eqb, length-append}
+use Rattle.std.proofs.Common.{◌≡◌, ℕ, ◌<◌, ◌≤◌, Bool, true, false, cond, not, ◌==◌, ◌&&◌, Option, Some, None, Ok, Err, List, [], ◌∷◌, ◌++◌, length, refl, sym, ◌∙◌, ap, append_assoc, arith, nat_lt, lt-ltb, ne_eqb, length-append}
 use Rattle.std.specs.Prelude.{option_map}
 use Rattle.std.proofs.lemmas.Bool.{and_parts, and_from}
 use Rattle.vx_value.specs.Texts.{ByteString, is_empty}
-use Rattle.vx_value.specs.Paths.{begins_name, goes_on, move_of, ends_path, carry, names_from}
+use Rattle.vx_value.specs.Paths.{goes_on, move_of, ends_path, carry, names_from}
 use Rattle.vx_value.specs.declared.path_mode.PathMode.{PathMode}
-use Rattle.vx_value.specs.declared.path_mode.PathMode.TheVariants as of_value
 use Rattle.vx_value.specs.declared.path_mode.PathMove.{PathMove}
-use Rattle.vx_value.specs.declared.path_mode.PathMove.TheVariants as move
-use Rattle.vx_condition.specs.PathSteps.{path_step, may_end}
 use Rattle.vx_condition.specs.Moves.{at, behind_blanks, in_path, behind_path}
 use Rattle.vx_condition.specs.Runs.{go_on, run}
-use Rattle.vx_condition.specs.declared.path_place.PathPlace.{PathPlace}
-use Rattle.vx_condition.specs.declared.path_place.PathPlace.TheVariants.{Name, Bare, Quoted, Escaped, Closed}
-use Rattle.vx_condition.specs.declared.path_place.PathStep.{PathStep}
-use Rattle.vx_condition.specs.declared.path_place.PathStep.TheVariants.{Refused, Adds, Passes, Ends}
+use Rattle.vx_value.specs.declared.path_mode.PathMode.TheVariants.{Start, Name, Bare, Quoted, Escaped, Closed}
+use Rattle.vx_value.specs.declared.path_mode.PathMove.TheVariants.{Refused, Adds, Passes, Ends}
 use Rattle.vx_condition.specs.declared.expected.Expected.{Expected}
 use Rattle.vx_condition.specs.declared.expected.Expected.TheVariants as wants
 use Rattle.vx_condition.specs.declared.mode.PathUse.{PathUse}
@@ -23,35 +18,6 @@ use Rattle.vx_condition.specs.declared.mode.Mode.TheVariants as mode
 use Rattle.vx_condition.specs.declared.reader.Reader.{Reader}
 use Rattle.vx_condition.specs.declared.stop.Stop.TheVariants as stop
 use Rattle.vx_condition.proofs.Runs.{chosen}
-
--- the place as the reader of paths names it
-abbrev pub mode_of : PathPlace → PathMode
-mode_of Name = of_value.Name
-mode_of Bare = of_value.Bare
-mode_of Quoted = of_value.Quoted
-mode_of Escaped = of_value.Escaped
-mode_of Closed = of_value.Closed
-
-abbrev pub move_for : PathStep → PathMove
-move_for Refused = move.Refused
-move_for (Adds p) = move.Adds (mode_of p)
-move_for (Passes p) = move.Passes (mode_of p)
-move_for Ends = move.Ends
-
-move_for-cond : (t : Bool) (x y : PathStep) → move_for (cond t x y) ≡ cond t (move_for x) (move_for y)
-move_for-cond true x y = refl
-move_for-cond false x y = refl
-
-pub same_move : (p : PathPlace) (none : Bool) (b : ℕ) → move_of (mode_of p) none b ≡ move_for (path_step p none b)
-same_move Name none b = sym (move_for-cond (b == 34) (Passes Quoted) (cond (begins_name b) (Adds Bare) Refused) ∙ ap (λ m. cond (b == 34) (move.Passes of_value.Quoted) m) (move_for-cond (begins_name b) (Adds Bare) Refused))
-same_move Bare none b = sym (move_for-cond (goes_on b) (Adds Bare) (cond (b == 46) Ends Refused) ∙ ap (λ m. cond (goes_on b) (move.Adds of_value.Bare) m) (move_for-cond (b == 46) Ends Refused))
-same_move Quoted none b =
-    sym (move_for-cond (b == 92) (Passes Escaped) (cond (b == 34) (cond none Refused (Passes Closed)) (Adds Quoted))
-    ∙ ap (λ m. cond (b == 92) (move.Passes of_value.Escaped) m)
-    (move_for-cond (b == 34) (cond none Refused (Passes Closed)) (Adds Quoted)
-    ∙ ap (λ m. cond (b == 34) m (move.Adds of_value.Quoted)) (move_for-cond none Refused (Passes Closed))))
-same_move Escaped none b = sym (move_for-cond ((b == 34) || (b == 92)) (Adds Quoted) Refused)
-same_move Closed none b = sym (move_for-cond (b == 46) Ends Refused)
 
 pub no_bytes : (name : ByteString) → is_empty name ≡ (length name == 0)
 no_bytes [] = refl
@@ -93,18 +59,20 @@ cond_false : {X : Type 0} (t : Bool) (x y : X) → t ≡ false → cond t x y �
 cond_false true x y h = absurd (cc)
 cond_false false x y h = refl
 
-refused_at : (p : PathPlace) (none : Bool) (b : ℕ) → Stopper b → may_end p ≡ true → path_step p none b ≡ Refused
+refused_at : (p : PathMode) (none : Bool) (b : ℕ) → Stopper b → ends_path p ≡ true → move_of p none b ≡ Refused
+refused_at Start none b s h = absurd (cc)
 refused_at Name none b s h = absurd (cc)
 refused_at Bare none b s h = cond_false (goes_on b) (Adds Bare) (cond (b == 46) Ends Refused) s.bare ∙ cond_false (b == 46) Ends Refused s.undotted
 refused_at Quoted none b s h = absurd (cc)
 refused_at Escaped none b s h = absurd (cc)
 refused_at Closed none b s h = cond_false (b == 46) Ends Refused s.undotted
 
-record Ended (p : PathPlace) (name : ByteString) (found : List ByteString) : Type 0 where
-  may : may_end p ≡ true
+record Ended (p : PathMode) (name : ByteString) (found : List ByteString) : Type 0 where
+  may : ends_path p ≡ true
   names : name ∷ [] ≡ found
 
-ended : (p : PathPlace) (name : ByteString) (found : List ByteString) → names_from (mode_of p) name [] ≡ Some found → Ended p name found
+ended : (p : PathMode) (name : ByteString) (found : List ByteString) → names_from p name [] ≡ Some found → Ended p name found
+ended Start name found h = absurd (cc)
 ended Name name found h = absurd (cc)
 ended Bare name found h = record { may = refl; names = cc }
 ended Quoted name found h = absurd (cc)
@@ -131,16 +99,16 @@ some_names m name (b ∷ text) found h = by_move (move_of m (is_empty name) b) (
   where
     by_move : (v : PathMove) → ((n : PathMode) (w : ByteString) (g : List ByteString) → names_from n w text ≡ Some g → 1 ≤ length g)
         → carry v name b (λ n w. names_from n w text) ≡ Some found → 1 ≤ length found
-    by_move move.Refused ih e = absurd (cc)
-    by_move (move.Adds n) ih e = ih n (name ++ b ∷ []) found e
-    by_move (move.Passes n) ih e = ih n name found e
-    by_move move.Ends ih e =
-        let parts = mapped name (names_from of_value.Name [] text) found e in
+    by_move Refused ih e = absurd (cc)
+    by_move (Adds n) ih e = ih n (name ++ b ∷ []) found e
+    by_move (Passes n) ih e = ih n name found e
+    by_move Ends ih e =
+        let parts = mapped name (names_from Name [] text) found e in
         omega (arith, ap length parts.whole)
 
 abbrev Goes : ℕ → Reader → PathUse → ByteString → ℕ → ByteString → Type 0
 Goes most r use_of text c more =
-    (p : PathPlace) (name : ByteString) (names found : List ByteString) → names_from (mode_of p) name text ≡ Some found → length (names ++ found) ≤ 31
+    (p : PathMode) (name : ByteString) (names found : List ByteString) → names_from p name text ≡ Some found → length (names ++ found) ≤ 31
     → run most (at r (mode.Path use_of p name names)) (text ++ (c ∷ more)) ≡ run most (at r (mode.Expects (behind_path use_of (names ++ found)))) (c ∷ more)
 
 -- a path, before a byte that ends it
@@ -151,23 +119,23 @@ over_path most r use_of [] c more stops p name names found h few =
     let here = at r (mode.Path use_of p name names) in
     let further = λ (next : Reader). run most next more in
     let room : length names < 31 = omega (arith, few, ap length e.names, length-append names found) in
-    let test : (may_end p && nat_lt (length names) 31 && nat_lt c 128) ≡ true = and_from (may_end p && nat_lt (length names) 31) (nat_lt c 128) (and_from (may_end p) (nat_lt (length names) 31) e.may (lt-ltb (length names) 31 room)) s.low in
+    let test : (ends_path p && nat_lt (length names) 31 && nat_lt c 128) ≡ true = and_from (ends_path p && nat_lt (length names) 31) (nat_lt c 128) (and_from (ends_path p) (nat_lt (length names) 31) e.may (lt-ltb (length names) 31 room)) s.low in
     ap (λ st. go_on (in_path most here use_of p name names c st) further) (refused_at p (length name == 0) c s e.may)
-    ∙ chosen (may_end p && nat_lt (length names) 31 && nat_lt c 128) (behind_blanks most here (behind_path use_of (names ++ name ∷ [])) c) (Err stop.Refused) further test
+    ∙ chosen (ends_path p && nat_lt (length names) 31 && nat_lt c 128) (behind_blanks most here (behind_path use_of (names ++ name ∷ [])) c) (Err stop.Refused) further test
     ∙ ap (λ v. go_on v further) (placeless most r (mode.Path use_of p name names) (mode.Expects (behind_path use_of (names ++ name ∷ []))) (behind_path use_of (names ++ name ∷ [])) c)
     ∙ ap (λ ns. run most (at r (mode.Expects (behind_path use_of (names ++ ns)))) (c ∷ more)) e.names
 over_path most r use_of (b ∷ text) c more stops p name names found h few =
-    by_step (path_step p (length name == 0) b) (over_path most r use_of text c more stops)
-    (sym (ap (λ v. carry v name b (λ m n. names_from m n text)) (ap (λ t. move_of (mode_of p) t b) (no_bytes name) ∙ same_move p (length name == 0) b)) ∙ h)
+    by_step (move_of p (length name == 0) b) (over_path most r use_of text c more stops)
+    (sym (ap (λ v. carry v name b (λ m n. names_from m n text)) (ap (λ t. move_of p t b) (no_bytes name))) ∙ h)
   where
-    by_step : (st : PathStep) → Goes most r use_of text c more → carry (move_for st) name b (λ m n. names_from m n text) ≡ Some found
+    by_step : (st : PathMove) → Goes most r use_of text c more → carry st name b (λ m n. names_from m n text) ≡ Some found
         → go_on (in_path most (at r (mode.Path use_of p name names)) use_of p name names b st) (λ next. run most next (text ++ (c ∷ more))) ≡ run most (at r (mode.Expects (behind_path use_of (names ++ found)))) (c ∷ more)
     by_step Refused ih e = absurd (cc)
     by_step (Adds q) ih e = ih q (name ++ b ∷ []) names found e few
     by_step (Passes q) ih e = ih q name names found e few
     by_step Ends ih e =
-        let parts = mapped name (names_from of_value.Name [] text) found e in
-        let some = some_names of_value.Name [] text parts.rest parts.is_rest in
+        let parts = mapped name (names_from Name [] text) found e in
+        let some = some_names Name [] text parts.rest parts.is_rest in
         let regrouped : (names ++ name ∷ []) ++ parts.rest ≡ names ++ found = append_assoc names (name ∷ []) parts.rest ∙ ap (λ ns. names ++ ns) parts.whole in
         let room : length names < 30 = omega (arith, few, some, ap length parts.whole, length-append names found) in
         chosen (nat_lt (length names) 30) (Ok (at r (mode.Path use_of Name [] (names ++ name ∷ [])))) (Err stop.Refused) (λ next. run most next (text ++ (c ∷ more))) (lt-ltb (length names) 30 room)

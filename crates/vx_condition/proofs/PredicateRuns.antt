@@ -17,7 +17,7 @@ use Rattle.vx_condition.specs.declared.operator.Equality.TheVariants as equality
 use Rattle.vx_condition.specs.declared.call.Call.TheVariants as call
 use Rattle.vx_condition.specs.declared.call.Search.{Search}
 use Rattle.vx_condition.specs.declared.call.Search.TheVariants as search_for
-use Rattle.vx_condition.specs.declared.path_place.PathPlace.TheVariants.{Name}
+use Rattle.vx_value.specs.declared.path_mode.PathMode.TheVariants.{Name}
 use Rattle.vx_condition.specs.declared.predicate.Predicate.{Predicate}
 use Rattle.vx_condition.specs.declared.predicate.Predicate.TheVariants.{Equal, Different, Compared, Exists, Contains, Matches}
 use Rattle.vx_condition.specs.declared.expected.Expected.{Expected}

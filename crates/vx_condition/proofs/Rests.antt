@@ -24,7 +24,7 @@ use Rattle.vx_condition.specs.declared.call.Call.TheVariants as call
 use Rattle.vx_condition.specs.declared.call.Search.{Search}
 use Rattle.vx_condition.specs.declared.call.Search.TheVariants as search_for
 use Rattle.vx_condition.specs.declared.fixed_word.FixedWord.{FixedWord}
-use Rattle.vx_condition.specs.declared.path_place.PathPlace.{PathPlace}
+use Rattle.vx_value.specs.declared.path_mode.PathMode.{PathMode}
 use Rattle.vx_condition.specs.declared.expected.Expected.{Expected}
 use Rattle.vx_condition.specs.declared.expected.Expected.TheVariants as wants
 use Rattle.vx_condition.specs.declared.mode.Behind.{Behind}
@@ -37,7 +37,6 @@ use Rattle.vx_condition.specs.declared.mode.Mode.{Mode}
 use Rattle.vx_condition.specs.declared.mode.Mode.TheVariants as mode
 use Rattle.vx_condition.specs.declared.frame.Frame.{Frame}
 use Rattle.vx_condition.specs.declared.reader.Reader.{Reader}
-use Rattle.vx_condition.proofs.PathRuns.{mode_of}
 
 -- any blanks, and then a text
 pub record Blanks (More : ByteString → Type 0) (text : ByteString) : Type 0 where
@@ -55,13 +54,15 @@ pub record Close (q found : Predicate) (text : ByteString) : Type 0 where
   pub written : text ≡ codes ")"
 
 -- what is looked for, and the closing bracket
-pub record Part (p : List ByteString) (found : Predicate) (text : ByteString) : Type 0 where
+pub record Worded (IsWord : ByteString → ByteString → Type 0) (made : ByteString → Predicate) (found : Predicate) (text : ByteString) : Type 0 where
   pub word : ByteString
-  pub rest : Then (IsString word) (Close (Contains p word) found) text
+  pub rest : Then (IsWord word) (Close (made word) found) text
 
-pub record Sought (keeps : Bool) (p : List ByteString) (found : Predicate) (text : ByteString) : Type 0 where
-  pub word : ByteString
-  pub rest : Then (IsPatternText word) (Close (sought keeps p word) found) text
+abbrev pub Part : List ByteString → Predicate → ByteString → Type 0
+Part p = Worded IsString (λ word. Contains p word)
+
+abbrev pub Sought : Bool → List ByteString → Predicate → ByteString → Type 0
+Sought keeps p = Worded IsPatternText (λ word. sought keeps p word)
 
 abbrev pub Argument : Bool → Search → List ByteString → Predicate → ByteString → Type 0
 Argument keeps search_for.Part p = Part p
@@ -134,11 +135,11 @@ pub record Completed (q found : Predicate) (text : ByteString) : Type 0 where
   pub none : text ≡ []
 
 -- a path that has begun
-pub record InPath (keeps : Bool) (use_of : PathUse) (place : PathPlace) (name : ByteString) (names : List ByteString) (found : Predicate) (text : ByteString) : Type 0 where
+pub record InPath (keeps : Bool) (use_of : PathUse) (place : PathMode) (name : ByteString) (names : List ByteString) (found : Predicate) (text : ByteString) : Type 0 where
   pub front : ByteString
   pub back : ByteString
   pub others : List ByteString
-  pub named : names_from (mode_of place) name front ≡ Some others
+  pub named : names_from place name front ≡ Some others
   pub few : length (names ++ others) ≤ 31
   pub more : Blanks (BehindPath keeps use_of (names ++ others) found) back
   pub whole : text ≡ front ++ back

@@ -2,7 +2,6 @@
 use Rattle.std.proofs.Common.{◌≡◌, ℕ, max, ◌-◌, ◌≤◌, Bool, true, false, cond, Some, Result, Ok, Err, pos, negsuc, List, [], ◌∷◌, ◌++◌, length, drop, codes, refl, sym, ◌∙◌, ap, subst, append_assoc, append-nil, arith, inl, inr, length-append}
 use Rattle.vx_value.specs.Texts.{ByteString, is_empty}
 use Rattle.vx_value.specs.Paths.{carry, names_from}
-use Rattle.vx_value.specs.declared.path_mode.PathMode.TheVariants as of_value
 use Rattle.vx_value.specs.declared.path_mode.PathMove.TheVariants as move
 use Rattle.vx_condition.specs.Trees as tree
 use Rattle.vx_condition.specs.Trees.{Disjunction}
@@ -21,8 +20,8 @@ use Rattle.vx_condition.specs.declared.call.Call as call_type
 use Rattle.vx_condition.specs.declared.call.Search.{Search}
 use Rattle.vx_condition.specs.declared.call.Search.TheVariants as search_for
 use Rattle.vx_condition.specs.declared.fixed_word.FixedWord.TheVariants as fixed
-use Rattle.vx_condition.specs.declared.path_place.PathPlace.{PathPlace}
-use Rattle.vx_condition.specs.declared.path_place.PathPlace.TheVariants as place
+use Rattle.vx_value.specs.declared.path_mode.PathMode.{PathMode}
+use Rattle.vx_value.specs.declared.path_mode.PathMode.TheVariants as place
 use Rattle.vx_condition.specs.declared.expected.Expected.{Expected}
 use Rattle.vx_condition.specs.declared.expected.Expected.TheVariants as wants
 use Rattle.vx_condition.specs.declared.mode.Behind.{Behind}
@@ -36,7 +35,6 @@ use Rattle.vx_condition.specs.declared.mode.Mode.TheVariants as mode
 use Rattle.vx_condition.specs.declared.frame.Frame.{Frame}
 use Rattle.vx_condition.specs.declared.reader.Reader.{Reader}
 use Rattle.vx_condition.specs.declared.stop.Stop.{Stop}
-use Rattle.vx_condition.proofs.PathRuns.{mode_of}
 use Rattle.vx_condition.specs.Grammar.{IsDisjunctionText}
 use Rattle.vx_condition.specs.Trees.{Term, negated, bracketed, Conjunction, no_term, term, no_branch, branch, negated_times, conjunction_of, disjunction_of}
 use Rattle.vx_condition.specs.Conditions.{term_levels, conjunction_levels, disjunction_levels}
@@ -221,22 +219,23 @@ not_empty : (name : ByteString) (b : ℕ) → is_empty (name ++ b ∷ []) ≡ fa
 not_empty [] b = refl
 not_empty (c ∷ name) b = refl
 
-record Some_name (p : PathPlace) (name : ByteString) : Type 0 where
+record Some_name (p : PathMode) (name : ByteString) : Type 0 where
   front : ByteString
   other : ByteString
-  named : names_from (mode_of p) name front ≡ Some (other ∷ [])
+  named : names_from p name front ≡ Some (other ∷ [])
 
-quote_ends : (name : ByteString) (b : ℕ) → names_from of_value.Quoted (name ++ b ∷ []) (34 ∷ []) ≡ Some ((name ++ b ∷ []) ∷ [])
-quote_ends name b = ap (λ t. carry (cond t move.Refused (move.Passes of_value.Closed)) (name ++ b ∷ []) 34 (λ m n. names_from m n [])) (not_empty name b)
+quote_ends : (name : ByteString) (b : ℕ) → names_from place.Quoted (name ++ b ∷ []) (34 ∷ []) ≡ Some ((name ++ b ∷ []) ∷ [])
+quote_ends name b = ap (λ t. carry (cond t move.Refused (move.Passes place.Closed)) (name ++ b ∷ []) 34 (λ m n. names_from m n [])) (not_empty name b)
 
-some_name : (p : PathPlace) (name : ByteString) → Some_name p name
+some_name : (p : PathMode) (name : ByteString) → Some_name p name
+some_name place.Start name = record { front = 97 ∷ []; other = name ++ 97 ∷ []; named = refl }
 some_name place.Name name = record { front = 97 ∷ []; other = name ++ 97 ∷ []; named = refl }
 some_name place.Bare name = record { front = []; other = name; named = refl }
 some_name place.Quoted name = record { front = 97 ∷ 34 ∷ []; other = name ++ 97 ∷ []; named = quote_ends name 97 }
 some_name place.Escaped name = record { front = 34 ∷ 34 ∷ []; other = name ++ 34 ∷ []; named = quote_ends name 34 }
 some_name place.Closed name = record { front = []; other = name; named = refl }
 
-some_in_path : (keeps : Bool) (use_of : PathUse) (p : PathPlace) (name : ByteString) (names : List ByteString) → length names ≤ 30 → Some_predicate (InPath keeps use_of p name names)
+some_in_path : (keeps : Bool) (use_of : PathUse) (p : PathMode) (name : ByteString) (names : List ByteString) → length names ≤ 30 → Some_predicate (InPath keeps use_of p name names)
 some_in_path keeps use_of p name names few =
     let n = some_name p name in
     let b = some_behind_path keeps use_of (names ++ n.other ∷ []) in

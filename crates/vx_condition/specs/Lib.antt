@@ -6,7 +6,6 @@ pub mod Sizes
 pub mod Meaning
 pub mod Views
 pub mod Falls
-pub mod PathSteps
 pub mod Words
 pub mod FrameCode
 pub mod Grammar

@@ -4,7 +4,7 @@ use Rattle.vx_value.specs.Texts.{ByteString}
 use Rattle.vx_condition.specs.Trees as tree
 use Rattle.vx_condition.specs.Trees.{disjunction_of, negated_times}
 use Rattle.vx_condition.specs.Grammar.{is_blank, is_digit, escaped}
-use Rattle.vx_condition.specs.PathSteps.{path_step, may_end}
+use Rattle.vx_value.specs.Paths.{move_of, ends_path}
 use Rattle.vx_condition.specs.Words.{letters_of}
 use Rattle.vx_condition.specs.Patterns.{IsRefused}
 use Rattle.vx_condition.specs.declared.comparison.Comparison.{Comparison}
@@ -23,10 +23,10 @@ use Rattle.vx_condition.specs.declared.call.Search.{Search}
 use Rattle.vx_condition.specs.declared.call.Search.TheVariants as search_for
 use Rattle.vx_condition.specs.declared.fixed_word.FixedWord.{FixedWord}
 use Rattle.vx_condition.specs.declared.fixed_word.FixedWord.TheVariants as fixed
-use Rattle.vx_condition.specs.declared.path_place.PathPlace.{PathPlace}
-use Rattle.vx_condition.specs.declared.path_place.PathPlace.TheVariants.{Name}
-use Rattle.vx_condition.specs.declared.path_place.PathStep.{PathStep}
-use Rattle.vx_condition.specs.declared.path_place.PathStep.TheVariants as path
+use Rattle.vx_value.specs.declared.path_mode.PathMode.{PathMode}
+use Rattle.vx_value.specs.declared.path_mode.PathMode.TheVariants.{Name}
+use Rattle.vx_value.specs.declared.path_mode.PathMove.{PathMove}
+use Rattle.vx_value.specs.declared.path_mode.PathMove.TheVariants as path
 use Rattle.vx_condition.specs.declared.expected.Expected.{Expected}
 use Rattle.vx_condition.specs.declared.expected.Expected.TheVariants as wants
 use Rattle.vx_condition.specs.declared.mode.Behind.{Behind}
@@ -196,13 +196,13 @@ in_word r w read behind b =
     then Ok (if read + 1 == length (letters_of w) then arrived r behind else at r (mode.Word w (read + 1) behind)) else Err Refused
 
 -- a byte in a path, by what it does there; no path has more than 31 names
-abbrev pub in_path : ℕ → Reader → PathUse → PathPlace → ByteString → List ByteString → ℕ → PathStep → Result Reader Stop
+abbrev pub in_path : ℕ → Reader → PathUse → PathMode → ByteString → List ByteString → ℕ → PathMove → Result Reader Stop
 in_path most r use_of place name names b (path.Adds next) = Ok (at r (mode.Path use_of next (name ++ b ∷ []) names))
 in_path most r use_of place name names b (path.Passes next) = Ok (at r (mode.Path use_of next name names))
 in_path most r use_of place name names b path.Ends =
     if nat_lt (length names) 30 then Ok (at r (mode.Path use_of Name [] (names ++ name ∷ []))) else Err Refused
 in_path most r use_of place name names b path.Refused =
-    if may_end place && nat_lt (length names) 31 && nat_lt b 128 then behind_blanks most r (behind_path use_of (names ++ name ∷ [])) b else Err Refused
+    if ends_path place && nat_lt (length names) 31 && nat_lt b 128 then behind_blanks most r (behind_path use_of (names ++ name ∷ [])) b else Err Refused
 
 -- a reader behind a text in quotes
 abbrev pub behind_text : Reader → TextUse → ByteString → Reader
@@ -253,7 +253,7 @@ moved most r mode.Start b = if is_blank b then Err Refused else operand most r b
 moved most r (mode.Expects e) b = behind_blanks most r e b
 moved most r mode.Complete b = behind_operand r b
 moved most r (mode.Word w read behind) b = in_word r w read behind b
-moved most r (mode.Path use_of place name names) b = in_path most r use_of place name names b (path_step place (length name == 0) b)
+moved most r (mode.Path use_of place name names) b = in_path most r use_of place name names b (move_of place (length name == 0) b)
 moved most r (mode.Text use_of behind_backslash held) b = in_text r use_of behind_backslash held b
 moved most r (mode.Mark p) b = if b == 39 then Ok (at r (mode.Pattern p [])) else Err Refused
 moved most r (mode.Pattern p held) b = in_pattern r p held b

@@ -1,6 +1,7 @@
 -- The code of trees, by which a proof tells two of them apart.
 use Rattle.std.specs.Prelude.{◌≡◌, refl}
 use mathlib.Core.Path.{ap}
+use Rattle.std.proofs.Common.{ap₂}
 use Rattle.std.specs.Coded.{Coded}
 use base.Stored.{Gv, gnil, gnum, gcons}
 use Rattle.vx_condition.specs.Trees.{Term, negated, bracketed, stated, Conjunction, no_term, term, Disjunction, no_branch, branch}
@@ -36,19 +37,13 @@ mutual
   same_conjunctions no_term no_term e = refl
   same_conjunctions no_term (term t ts) e = absurd (cc)
   same_conjunctions (term s ss) no_term e = absurd (cc)
-  same_conjunctions (term s ss) (term t ts) e =
-      let head : s ≡ t = same_terms s t (cc) in
-      let tail : ss ≡ ts = same_conjunctions ss ts (cc) in
-      λ i. term (head i) (tail i)
+  same_conjunctions (term s ss) (term t ts) e = ap₂ term (same_terms s t (cc)) (same_conjunctions ss ts (cc))
 
   pub same_disjunctions : (c d : Disjunction) → code_disjunction c ≡ code_disjunction d → c ≡ d
   same_disjunctions no_branch no_branch e = refl
   same_disjunctions no_branch (branch d ds) e = absurd (cc)
   same_disjunctions (branch c cs) no_branch e = absurd (cc)
-  same_disjunctions (branch c cs) (branch d ds) e =
-      let head : c ≡ d = same_conjunctions c d (cc) in
-      let tail : cs ≡ ds = same_disjunctions cs ds (cc) in
-      λ i. branch (head i) (tail i)
+  same_disjunctions (branch c cs) (branch d ds) e = ap₂ branch (same_conjunctions c d (cc)) (same_disjunctions cs ds (cc))
 
 abbrev pub coded_term : Coded Term
 coded_term = record { code = code_term; inj = same_terms }

@@ -54,10 +54,8 @@ impl Conjunction {
     pub fn push(&mut self, term: Term) -> Result<(), WantOfMemory>
         ensures { OnOk result (self.new ≡ self.old ++ term_view term ∷ []) }
     {
-        match self.terms.push(term) {
-            Ok(()) => Ok(()),
-            Err(_) => Err(WantOfMemory),
-        }
+        self.terms.push(term)?;
+        Ok(())
     }
 
     /// Whether each term holds of an event. It takes memory only for a match.

@@ -52,10 +52,8 @@ impl Disjunction {
     pub fn push(&mut self, branch: Conjunction) -> Result<(), WantOfMemory>
         ensures { OnOk result (self.new ≡ self.old ++ branch ∷ []) }
     {
-        match self.branches.push(branch) {
-            Ok(()) => Ok(()),
-            Err(_) => Err(WantOfMemory),
-        }
+        self.branches.push(branch)?;
+        Ok(())
     }
 
     /// Whether some branch holds of an event. It takes memory only for a match.

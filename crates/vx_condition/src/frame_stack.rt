@@ -38,10 +38,8 @@ impl FrameStack {
     pub fn push(&mut self, frame: Frame) -> Result<(), WantOfMemory>
         ensures { OnOk result (self.new ≡ frame ∷ self.old) }
     {
-        match self.frames.push(frame) {
-            Ok(()) => Ok(()),
-            Err(_) => Err(WantOfMemory),
-        }
+        self.frames.push(frame)?;
+        Ok(())
     }
 
     /// Takes the innermost frame. `None` exactly where there is none.

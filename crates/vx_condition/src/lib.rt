@@ -20,7 +20,6 @@ mod mode;
 mod openings;
 mod operator;
 mod parsing;
-mod path_place;
 mod pattern;
 mod predicate;
 mod reader;

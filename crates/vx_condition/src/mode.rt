@@ -3,9 +3,8 @@ use crate::comparison::Comparison;
 use crate::expected::Expected;
 use crate::fixed_word::FixedWord;
 use crate::operator::{Equality, Operator};
-use crate::path_place::PathPlace;
 use crate::predicate::Predicate;
-use vx_value::{ItemList, Path, TextList};
+use vx_value::{ItemList, Path, PathMode, TextList};
 
 /// What stands behind a fixed word.
 #[derive(Drop)]
@@ -46,7 +45,7 @@ pub enum Mode {
     /// In a fixed word, of which some letters were read.
     Word(FixedWord, usize, Behind),
     /// In a path: where in it, the bytes of the name that has begun, and the names before it.
-    Path(PathUse, PathPlace, ItemList<u8>, TextList),
+    Path(PathUse, PathMode, ItemList<u8>, TextList),
     /// In a text in quotes: whether behind a backslash, and the bytes of the text so far.
     Text(TextUse, bool, ItemList<u8>),
     /// Behind the `r` of a pattern.

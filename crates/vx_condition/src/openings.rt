@@ -10,10 +10,9 @@ use crate::fixed_word::FixedWord;
 use crate::literal::Literal;
 use crate::mode::{Behind, Mode, PathUse, TextUse};
 use crate::operator::{Equality, Operator};
-use crate::path_place::PathPlace;
 use crate::predicate::Predicate;
 use std::alloc::Global;
-use vx_value::{ItemList, Path};
+use vx_value::{ItemList, Path, PathMode};
 
 /// Whether a byte is a blank.
 pub fn is_blank(byte: u8) -> bool
@@ -37,7 +36,7 @@ pub fn operand_mode(alloc: Global, byte: u8) -> Option<Mode>
         let name = ItemList::new(alloc);
         Some(Mode::Path(
             PathUse::Compared,
-            PathPlace::Name,
+            PathMode::Name,
             name,
             ItemList::new(alloc),
         ))

@@ -8,13 +8,12 @@ use crate::frame::Frame;
 use crate::frame_stack::FrameStack;
 use crate::mode::{Behind, Mode, PathUse};
 use crate::openings::{argument_mode, is_blank, literal_mode, operand_mode, operator_mode};
-use crate::path_place::PathPlace;
 use crate::predicate::Predicate;
 use crate::stop::Stop;
 use crate::term::Atom;
 use std::alloc::Global;
 use std::mem;
-use vx_value::{ItemList, Text};
+use vx_value::{ItemList, PathMode, Text};
 
 /// A reader in the midst of a condition.
 #[derive(Drop)]
@@ -255,7 +254,7 @@ impl Reader {
         if byte == b'.' {
             let name = ItemList::new(alloc);
             let names = ItemList::new(alloc);
-            self.stand(Mode::Path(PathUse::Called(call), PathPlace::Name, name, names));
+            self.stand(Mode::Path(PathUse::Called(call), PathMode::Name, name, names));
             Ok(())
         } else {
             Err(Stop::Refused)

@@ -1,7 +1,7 @@
 //! How a reader goes on inside a token.
 ghost use Rattle.std.specs.Prelude.{◌≡◌, ◌<◌, ◌∷◌, ◌++◌, [], ◌==◌, ◌&&◌, ◌+◌, ◌-◌, ◌*◌, not, true, cond, nat_lt, length, IfErr, IfOk, OnOk};
 ghost use Rattle.std.specs.Str.{IsUtf8};
-ghost use Rattle.vx_condition.specs.PathSteps.{path_step};
+ghost use Rattle.vx_value.specs.Paths.{move_of};
 ghost use Rattle.vx_condition.specs.Grammar.{is_digit, escaped};
 ghost use Rattle.vx_condition.specs.Moves.{at, moved, step, arrived, behind_blanks, behind_path, in_word, in_path, in_text, with_escape, behind_text, in_pattern, in_whole, fits, signed, held_by, Stops, StopsPattern};
 ghost use Rattle.vx_condition.specs.Takes.{HasSize, StopsIn, whole_in, end_at};
@@ -16,7 +16,6 @@ use crate::literal::Literal;
 use crate::mode::{Behind, Mode, PathUse, TextUse};
 use crate::openings::{behind_path, equal_to, is_blank, is_digit, or_equal, with_number};
 use crate::operator::Operator;
-use crate::path_place::{PathPlace, PathStep};
 use crate::pattern::{Pattern, PatternFault};
 use crate::predicate::Predicate;
 use crate::reader::{Reader, text_of};
@@ -24,7 +23,7 @@ use crate::stop::Stop;
 use crate::term::Atom;
 use std::alloc::Global;
 use std::mem;
-use vx_value::{ItemList, Path, TextList};
+use vx_value::{ItemList, Path, PathMode, PathMove, TextList};
 
 // Adds a byte to those that are held.
 fn held_with(held: ItemList<u8>, byte: u8) -> Result<ItemList<u8>, Stop>
@@ -128,12 +127,12 @@ impl Reader {
         requires { IsUtf8 name }
         ensures ok { OnOk result
             (cond (nat_lt (length names) 30)
-            (Ok (at self.old (Mode.Path use_of PathPlace.Name [] (names ++ name ∷ []))))
+            (Ok (at self.old (Mode.Path use_of PathMode.Name [] (names ++ name ∷ []))))
             (Err Stop.Refused) ≡ Ok self.new) }
         ensures stop { IfErr result
             (Stops
             (cond (nat_lt (length names) 30)
-            (Ok (at self.old (Mode.Path use_of PathPlace.Name [] (names ++ name ∷ []))))
+            (Ok (at self.old (Mode.Path use_of PathMode.Name [] (names ++ name ∷ []))))
             (Err Stop.Refused))) }
     {
         if names.len() >= 30 {
@@ -141,7 +140,7 @@ impl Reader {
         }
         let names = names_with(alloc, names, name)?;
         let next = ItemList::new(alloc);
-        self.stand(Mode::Path(use_of, PathPlace::Name, next, names));
+        self.stand(Mode::Path(use_of, PathMode::Name, next, names));
         Ok(())
     }
 
@@ -166,34 +165,11 @@ impl Reader {
         self.behind_blanks(alloc, behind_path(use_of, Path::of(names)), byte)
     }
 
-    // Takes a byte that isn't of a path, where one may end.
-    fn leave_path(
-        &mut self,
-        alloc: Global,
-        use_of: PathUse,
-        place: PathPlace,
-        name: ItemList<u8>,
-        names: TextList,
-        byte: u8,
-    ) -> Result<(), Stop>
-        requires { byte < 128 → IsUtf8 name }
-        ensures ok { OnOk result
-            (in_path 32 self.old use_of place name names byte PathStep.Refused ≡ Ok self.new) }
-        ensures stop { IfErr result
-            (Stops (in_path 32 self.old use_of place name names byte PathStep.Refused)) }
-    {
-        let may_end = place.may_end() && names.len() < 31 && byte < 128;
-        if !may_end {
-            return Err(Stop::Refused);
-        }
-        self.end_path(alloc, use_of, name, names, byte)
-    }
-
     // Takes a byte of a name.
     fn add_to_name(
         &mut self,
         use_of: PathUse,
-        next: PathPlace,
+        next: PathMode,
         name: ItemList<u8>,
         names: TextList,
         byte: u8,
@@ -207,12 +183,12 @@ impl Reader {
         Ok(())
     }
 
-    // Takes a byte in a path.
+    // Takes a byte in a path, or behind one that may end here.
     pub(crate) fn in_path(
         &mut self,
         alloc: Global,
         use_of: PathUse,
-        place: PathPlace,
+        place: PathMode,
         name: ItemList<u8>,
         names: TextList,
         byte: u8,
@@ -220,17 +196,23 @@ impl Reader {
         requires { byte < 128 → IsUtf8 name }
         ensures ok { OnOk result
             (in_path 32 self.old use_of place name names byte
-            (path_step place (length name == 0) byte) ≡ Ok self.new) }
+            (move_of place (length name == 0) byte) ≡ Ok self.new) }
         ensures stop { IfErr result
             (Stops
             (in_path 32 self.old use_of place name names byte
-            (path_step place (length name == 0) byte))) }
+            (move_of place (length name == 0) byte))) }
     {
-        match place.step(name.len() == 0, byte) {
-            PathStep::Adds(next) => self.add_to_name(use_of, next, name, names, byte),
-            PathStep::Passes(next) => self.go(Some(Mode::Path(use_of, next, name, names))),
-            PathStep::Ends => self.next_name(alloc, use_of, name, names),
-            PathStep::Refused => self.leave_path(alloc, use_of, place, name, names, byte),
+        match place.takes(name.len() == 0, byte) {
+            PathMove::Adds(next) => self.add_to_name(use_of, next, name, names, byte),
+            PathMove::Passes(next) => self.go(Some(Mode::Path(use_of, next, name, names))),
+            PathMove::Ends => self.next_name(alloc, use_of, name, names),
+            PathMove::Refused => {
+                let may_end = place.may_end() && names.len() < 31 && byte < 128;
+                if !may_end {
+                    return Err(Stop::Refused);
+                }
+                self.end_path(alloc, use_of, name, names, byte)
+            }
         }
     }
 

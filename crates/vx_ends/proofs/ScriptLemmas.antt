@@ -59,20 +59,12 @@ left_of-upcoming stream past (Idle ∷ steps) e = refl
 left_of-upcoming stream past (Fail ∷ steps) e = refl
 
 pub part_left-zero : (steps : List Step) → part_left 0 steps ≡ steps
-part_left-zero [] = refl
 part_left-zero (Bytes from bytes ∷ steps) = refl
-part_left-zero (StreamEnded from ∷ steps) = refl
-part_left-zero (AllEnded ∷ steps) = refl
-part_left-zero (Idle ∷ steps) = refl
-part_left-zero (Fail ∷ steps) = refl
+part_left-zero steps = refl
 
 pub part_observed-zero : (steps : List Step) → part_observed 0 steps ≡ []
-part_observed-zero [] = refl
 part_observed-zero (Bytes from bytes ∷ steps) = refl
-part_observed-zero (StreamEnded from ∷ steps) = refl
-part_observed-zero (AllEnded ∷ steps) = refl
-part_observed-zero (Idle ∷ steps) = refl
-part_observed-zero (Fail ∷ steps) = refl
+part_observed-zero steps = refl
 
 -- the step at a place, before those behind it
 pub drop_next : (steps : List Step) (at : ℕ) (s : Step) → at < length steps → s ≡ get_or steps at s → drop at steps ≡ s ∷ drop (at + 1) steps

@@ -17,21 +17,13 @@ pub record Progress : Type 0 where
 
 -- the part of a first step that was told, where so many of its bytes were
 abbrev pub part_observed : ℕ → List Step → List Step
-part_observed offset [] = []
 part_observed offset (Bytes from bytes ∷ steps) = if offset == 0 then [] else Bytes from (take offset bytes) ∷ []
-part_observed offset (StreamEnded from ∷ steps) = []
-part_observed offset (AllEnded ∷ steps) = []
-part_observed offset (Idle ∷ steps) = []
-part_observed offset (Fail ∷ steps) = []
+part_observed offset steps = []
 
 -- the steps without the bytes of the first one that were told
 abbrev pub part_left : ℕ → List Step → List Step
-part_left offset [] = []
 part_left offset (Bytes from bytes ∷ steps) = Bytes from (drop offset bytes) ∷ steps
-part_left offset (StreamEnded from ∷ steps) = StreamEnded from ∷ steps
-part_left offset (AllEnded ∷ steps) = AllEnded ∷ steps
-part_left offset (Idle ∷ steps) = Idle ∷ steps
-part_left offset (Fail ∷ steps) = Fail ∷ steps
+part_left offset steps = steps
 
 -- how far a script was told, by the number of its steps and the bytes of the next one that were
 abbrev pub progress_of : List Step → ℕ → ℕ → Progress
@@ -122,12 +114,8 @@ answer_of room (Fail ∷ steps) = Err trouble.Failed
 
 -- the bytes that a take brings by the step that comes next
 abbrev pub brought_by : ℕ → List Step → List ℕ
-brought_by room [] = []
 brought_by room (Bytes from bytes ∷ steps) = take (fitting room bytes) bytes
-brought_by room (StreamEnded from ∷ steps) = []
-brought_by room (AllEnded ∷ steps) = []
-brought_by room (Idle ∷ steps) = []
-brought_by room (Fail ∷ steps) = []
+brought_by room steps = []
 
 -- the steps that are left after it
 abbrev pub rest_after : ℕ → List Step → List Step

@@ -86,16 +86,23 @@ some-take n (x ∷ xs) ys = rw add-one refl
 too_long : (limit : ℕ) (h p : List ℕ) → limit + 1 ≤ length h → leb (length (h ++ p)) limit ≡ false
 too_long limit h p l = grind (arith, nat_tests, length-append h p)
 
+-- a line that is too long stays so with more behind it, and where only what tells so is held
+record Long (limit : ℕ) (h p : List ℕ) : Type 0 where
+  taken : leb (length (take (limit + 1) h ++ p)) limit ≡ false
+  whole : leb (length (h ++ p)) limit ≡ false
+
+long-with : (limit : ℕ) (h p : List ℕ) → leb (length h) limit ≡ false → Long limit h p
+long-with limit h p k = record {
+  taken = too_long limit (take (limit + 1) h) p (grind (arith, nat_tests, k, length-take (limit + 1) h));
+  whole = too_long limit h p (grind (arith, nat_tests, k));
+}
+
 lines-held : (limit : ℕ) (e : Bool) (s : ℕ) (h : List ℕ) (p : List ℕ) (m : List (List ℕ)) → lines_of limit e s (take (limit + 1) h) p m ≡ lines_of limit e s h p m
 lines-held limit e s h p m = by_length (leb (length h) limit) refl
   where
     long : leb (length h) limit ≡ false → (ys : List (List ℕ)) → lines_of limit e s (take (limit + 1) h) p ys ≡ lines_of limit e s h p ys
-    long k [] =
-        let a : leb (length (take (limit + 1) h ++ p)) limit ≡ false = too_long limit (take (limit + 1) h) p (grind (arith, nat_tests, k, length-take (limit + 1) h)) in
-        let b : leb (length (h ++ p)) limit ≡ false = too_long limit h p (grind (arith, nat_tests, k)) in rw (a, b, some-take limit h p) refl
-    long k (q ∷ m) =
-        let a : leb (length (take (limit + 1) h ++ p)) limit ≡ false = too_long limit (take (limit + 1) h) p (grind (arith, nat_tests, k, length-take (limit + 1) h)) in
-        let b : leb (length (h ++ p)) limit ≡ false = too_long limit h p (grind (arith, nat_tests, k)) in rw (a, b) refl
+    long k [] = let l = long-with limit h p k in rw (l.taken, l.whole, some-take limit h p) refl
+    long k (q ∷ m) = let l = long-with limit h p k in rw (l.taken, l.whole) refl
 
     by_length : (b : Bool) → leb (length h) limit ≡ b → lines_of limit e s (take (limit + 1) h) p m ≡ lines_of limit e s h p m
     by_length true k = let l : length h ≤ limit + 1 = grind (arith, nat_tests, k) in λ i. lines_of limit e s (take_all (limit + 1) h l i) p m
@@ -105,12 +112,8 @@ overlong-held : (limit : ℕ) (e : Bool) (h : List ℕ) (p : List ℕ) (m : List
 overlong-held limit e h p m = by_length (leb (length h) limit) refl
   where
     long : leb (length h) limit ≡ false → (ys : List (List ℕ)) → overlong_of limit e (take (limit + 1) h) p ys ≡ overlong_of limit e h p ys
-    long k [] =
-        let a : leb (length (take (limit + 1) h ++ p)) limit ≡ false = too_long limit (take (limit + 1) h) p (grind (arith, nat_tests, k, length-take (limit + 1) h)) in
-        let b : leb (length (h ++ p)) limit ≡ false = too_long limit h p (grind (arith, nat_tests, k)) in rw (a, b, some-take limit h p) refl
-    long k (q ∷ m) =
-        let a : leb (length (take (limit + 1) h ++ p)) limit ≡ false = too_long limit (take (limit + 1) h) p (grind (arith, nat_tests, k, length-take (limit + 1) h)) in
-        let b : leb (length (h ++ p)) limit ≡ false = too_long limit h p (grind (arith, nat_tests, k)) in rw (a, b) refl
+    long k [] = let l = long-with limit h p k in rw (l.taken, l.whole, some-take limit h p) refl
+    long k (q ∷ m) = let l = long-with limit h p k in rw (l.taken, l.whole) refl
 
     by_length : (b : Bool) → leb (length h) limit ≡ b → overlong_of limit e (take (limit + 1) h) p m ≡ overlong_of limit e h p m
     by_length true k = let l : length h ≤ limit + 1 = grind (arith, nat_tests, k) in λ i. overlong_of limit e (take_all (limit + 1) h l i) p m

@@ -1,6 +1,6 @@
 -- Where the targets of a component's port stand.
 use Rattle.std.proofs.Common.{◌≡◌, ℕ, ◌+◌, ◌<◌, suc, Bool, not, cond, Some, find, List, [], ◌∷◌, length, get_or, map, sym, ap, ◌∙◌, subst, inl, inr, arith}
-use Rattle.std.proofs.lemmas.List.{get_or-map, length-map}
+use Rattle.std.proofs.lemmas.List.{get_or-map, get_or_read, length-map}
 use Rattle.std.specs.List.{position_or_len}
 use Rattle.vx_value.specs.Texts.{ByteString, same_text}
 use Rattle.vx_graph.specs.declared.node.Node.{Node}
@@ -59,3 +59,14 @@ targets_at (d ∷ rest) lists name port i is lt at =
       ap (λ r. get_or r port []) row ∙ get_or-map (readers nodes node.name) (outputs_of node) port [] [] outputs
           ∙ sym (ap (λ o. targets_in nodes o port) named),
     )
+
+-- the lists of a component that were read at its place
+pub row_seen : (lists all : List (List (List ByteString))) (i : ℕ) (item row : List (List ByteString)) → row ≡ item → i < length lists → item ≡ get_or lists i item → lists ≡ all → row ≡ get_or all i []
+row_seen lists all i item row same within is among = same ∙ get_or_read lists i item within is [] ∙ ap (λ l. get_or l i []) among
+
+-- the same by the components that contracts see, and those among which the place was sought
+pub targets_seen : (nodes seen sought : List Node) (lists : List (List (List ByteString))) (name : ByteString) (port i : ℕ)
+    → lists ≡ map (readers_of nodes) nodes → nodes ≡ seen → sought ≡ nodes → port < port_count seen name → i ≡ position_or_len (has_name name) sought
+    → (i < length lists) × (port < length (get_or lists i [])) × (get_or (get_or lists i []) port [] ≡ targets nodes name port)
+targets_seen nodes seen sought lists name port i is same among lt at =
+    targets_at nodes lists name port i is (subst (λ n. port < port_count n name) (sym same) lt) (at ∙ ap (position_or_len (has_name name)) among)

@@ -34,22 +34,12 @@ pub type NodeList = ItemList<Node>;
 pub fn has_source(nodes: &[Node]) -> bool
     ensures { result ≡ list_any is_source nodes.now }
 {
-    for node in nodes {
-        if let Class::Source = node.class {
-            return true;
-        }
-    }
-    false
+    nodes.iter().any(|node| matches!(node.class, Class::Source))
 }
 
 /// Whether some component is a sink.
 pub fn has_sink(nodes: &[Node]) -> bool
     ensures { result ≡ list_any is_sink nodes.now }
 {
-    for node in nodes {
-        if let Class::Sink = node.class {
-            return true;
-        }
-    }
-    false
+    nodes.iter().any(|node| matches!(node.class, Class::Sink))
 }

@@ -7,6 +7,11 @@ pub chosen : {A : Type 0} (P : A → Type 0) (t : Bool) (x y : A) → P (cond t 
 chosen P true x y h = inl (refl, h)
 chosen P false x y h = inr (refl, h)
 
+-- what follows from both ways of a choice
+pub choice : {A R : Type 0} (P : A → Type 0) (t : Bool) (x y : A) → P (cond t x y) → (t ≡ true → P x → R) → (t ≡ false → P y → R) → R
+choice P true x y h f g = f refl h
+choice P false x y h f g = g refl h
+
 pub both_true : (a b : Bool) → a && b ≡ true → (a ≡ true) × (b ≡ true)
 both_true true true h = (refl, refl)
 both_true true false h = cc

@@ -1,16 +1,14 @@
 -- A value is as deep as its text opens levels, at most.
-use Rattle.std.proofs.Common.{◌≡◌, ℕ, suc, max, ◌+◌, ◌≤◌, Bool, true, false, cond, ◌==◌, Option, Some, None, List, [], ◌∷◌, ◌++◌, length, refl, ap, arith, codes}
+use Rattle.std.proofs.Common.{◌≡◌, ℕ, suc, max, ◌+◌, ◌≤◌, Bool, true, false, cond, ◌==◌, Option, Some, None, List, [], ◌∷◌, ◌++◌, length, refl, ap, arith}
 use Rattle.std.specs.Str.Lossy.{utf8_lossy}
 use Rattle.vx_value.specs.Texts.{ByteString, text_lt, same_text, is_empty}
-use Rattle.vx_value.specs.Datum.{Datum, Null, Truth, Items, Fields, NamedDatum, data_of, named_of, depth, data_depth, named_depth}
+use Rattle.vx_value.specs.Datum.{Datum, Items, Fields, NamedDatum, data_of, named_of, depth, data_depth, named_depth}
 use Rattle.vx_value.specs.Events.{with_field}
-use Rattle.vx_json.specs.Numbers.{is_digit}
 use Rattle.vx_json.specs.Grammar.{is_blank}
 use Rattle.vx_json.specs.Machine.{TextMove, Goes, Ends, Wrong, text_move, number_move, may_end, is_whole_text, number_datum, Frame, InItems, InFields, Mode, AtValue, AtFirstItem, AtFirstName, AtName, InName, AtColon, AtEnd, InWord, InNumber, InText, State, state, step, begin_move, end_move, after_move, name_move, words_move, digits_move, word_move, finish, height}
 use Rattle.vx_json.specs.declared.text_place.TextPlace.TheVariants as place
 use Rattle.vx_json.specs.declared.number_place.NumberPlace.{NumberPlace}
-use Rattle.vx_json.specs.declared.number_place.NumberPlace.TheVariants as number
-use Rattle.vx_json.proofs.Levels.{choose}
+use Rattle.vx_json.proofs.Levels.{choose, begins}
 
 -- ---- depths
 data-push : (ds : List Datum) (v : Datum) → data_depth (data_of (ds ++ v ∷ [])) ≤ max (depth v) (data_depth (data_of ds))
@@ -51,42 +49,20 @@ abbrev pub Fits : Option State → Type 0
 Fits None = Unit {0}
 Fits (Some s) = ModeFits s.mode (length s.stack) × StackFits s.stack
 
--- what is left of the tests on the first byte of a value
-abbrev begin_f : List Frame → ℕ → Option State
-begin_f st b = cond (b == 102) (state (InWord (codes "alse") (Truth false)) st) None
-
-abbrev begin_t : List Frame → ℕ → Option State
-begin_t st b = cond (b == 116) (state (InWord (codes "rue") (Truth true)) st) (begin_f st b)
-
-abbrev begin_n : List Frame → ℕ → Option State
-begin_n st b = cond (b == 110) (state (InWord (codes "ull") Null) st) (begin_t st b)
-
-abbrev begin_object : List Frame → ℕ → Option State
-begin_object st b = cond (b == 123) (state AtFirstName st) (begin_n st b)
-
-abbrev begin_array : List Frame → ℕ → Option State
-begin_array st b = cond (b == 91) (state AtFirstItem st) (begin_object st b)
-
-abbrev begin_digit : List Frame → ℕ → Option State
-begin_digit st b = cond (is_digit b) (state (InNumber number.Whole (b ∷ [])) st) (begin_array st b)
-
-abbrev begin_zero : List Frame → ℕ → Option State
-begin_zero st b = cond (b == 48) (state (InNumber number.Zero (b ∷ [])) st) (begin_digit st b)
-
-abbrev begin_minus : List Frame → ℕ → Option State
-begin_minus st b = cond (b == 45) (state (InNumber number.Minus (b ∷ [])) st) (begin_zero st b)
-
 begin-fits : (st : List Frame) (b : ℕ) → length st ≤ 32 → StackFits st → Fits (begin_move st b)
 begin-fits st b l h =
-    choose Fits (b == 34) (state (InText place.Plain []) st) (begin_minus st b) (λ _. (tt, h)) (λ _.
-    choose Fits (b == 45) (state (InNumber number.Minus (b ∷ [])) st) (begin_zero st b) (λ _. (tt, h)) (λ _.
-    choose Fits (b == 48) (state (InNumber number.Zero (b ∷ [])) st) (begin_digit st b) (λ _. (tt, h)) (λ _.
-    choose Fits (is_digit b) (state (InNumber number.Whole (b ∷ [])) st) (begin_array st b) (λ _. (tt, h)) (λ _.
-    choose Fits (b == 91) (state AtFirstItem st) (begin_object st b) (λ _. (tt, h)) (λ _.
-    choose Fits (b == 123) (state AtFirstName st) (begin_n st b) (λ _. (tt, h)) (λ _.
-    choose Fits (b == 110) (state (InWord (codes "ull") Null) st) (begin_t st b) (λ _. (omega arith, h)) (λ _.
-    choose Fits (b == 116) (state (InWord (codes "rue") (Truth true)) st) (begin_f st b) (λ _. (omega arith, h)) (λ _.
-    choose Fits (b == 102) (state (InWord (codes "alse") (Truth false)) st) None (λ _. (omega arith, h)) (λ _. tt)))))))))
+    begins Fits st b (record {
+      text = λ _. (tt, h);
+      minus = λ _. (tt, h);
+      zero = λ _. (tt, h);
+      digit = λ _. (tt, h);
+      array = λ _. (tt, h);
+      object = λ _. (tt, h);
+      null = λ _. (omega arith, h);
+      truth = λ _. (omega arith, h);
+      falsehood = λ _. (omega arith, h);
+      wrong = tt;
+    })
 
 end-fits : (v : Datum) (st : List Frame) (b : ℕ) → depth v + length st ≤ 32 → StackFits st → Fits (end_move v st b)
 end-fits v [] b l h = tt

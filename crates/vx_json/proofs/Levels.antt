@@ -192,43 +192,40 @@ quotes b n e = at_byte (λ x. (InString ≡ inside_after Outside x) × (n ≡ co
 letter : (b x : ℕ) → (b == x) ≡ true → (x == 34) ≡ false → ((x == 91) || (x == 123)) ≡ false → ((x == 93) || (x == 125)) ≡ false → IsPlain b
 letter b x e h k l = eq_plain x b e (plain_of x h k l)
 
--- what is left of the tests on the first byte of a value
-abbrev begin_f : List Frame → ℕ → Option State
-begin_f st b = cond (b == 102) (state (InWord (codes "alse") (Truth false)) st) None
+-- what has to hold of each place to which a byte leads that begins a value
+pub record Beginnings (P : Option State → Type 0) (st : List Frame) (b : ℕ) : Type 0 where
+  pub text : (b == 34) ≡ true → P (state (InText place.Plain []) st)
+  pub minus : (b == 45) ≡ true → P (state (InNumber number.Minus (b ∷ [])) st)
+  pub zero : (b == 48) ≡ true → P (state (InNumber number.Zero (b ∷ [])) st)
+  pub digit : is_digit b ≡ true → P (state (InNumber number.Whole (b ∷ [])) st)
+  pub array : (b == 91) ≡ true → P (state AtFirstItem st)
+  pub object : (b == 123) ≡ true → P (state AtFirstName st)
+  pub null : (b == 110) ≡ true → P (state (InWord (codes "ull") Null) st)
+  pub truth : (b == 116) ≡ true → P (state (InWord (codes "rue") (Truth true)) st)
+  pub falsehood : (b == 102) ≡ true → P (state (InWord (codes "alse") (Truth false)) st)
+  pub wrong : P None
 
-abbrev begin_t : List Frame → ℕ → Option State
-begin_t st b = cond (b == 116) (state (InWord (codes "rue") (Truth true)) st) (begin_f st b)
-
-abbrev begin_n : List Frame → ℕ → Option State
-begin_n st b = cond (b == 110) (state (InWord (codes "ull") Null) st) (begin_t st b)
-
-abbrev begin_object : List Frame → ℕ → Option State
-begin_object st b = cond (b == 123) (state AtFirstName st) (begin_n st b)
-
-abbrev begin_array : List Frame → ℕ → Option State
-begin_array st b = cond (b == 91) (state AtFirstItem st) (begin_object st b)
-
-abbrev begin_digit : List Frame → ℕ → Option State
-begin_digit st b = cond (is_digit b) (state (InNumber number.Whole (b ∷ [])) st) (begin_array st b)
-
-abbrev begin_zero : List Frame → ℕ → Option State
-begin_zero st b = cond (b == 48) (state (InNumber number.Zero (b ∷ [])) st) (begin_digit st b)
-
-abbrev begin_minus : List Frame → ℕ → Option State
-begin_minus st b = cond (b == 45) (state (InNumber number.Minus (b ∷ [])) st) (begin_zero st b)
+-- holds of where the byte leads
+pub begins : (P : Option State → Type 0) (st : List Frame) (b : ℕ) → Beginnings P st b → P (begin_move st b)
+begins P st b h =
+    choose P _ _ _ h.text (λ _. choose P _ _ _ h.minus (λ _. choose P _ _ _ h.zero (λ _. choose P _ _ _ h.digit (λ _. choose P _ _ _ h.array (λ _.
+    choose P _ _ _ h.object (λ _. choose P _ _ _ h.null (λ _. choose P _ _ _ h.truth (λ _. choose P _ _ _ h.falsehood (λ _. h.wrong)))))))))
 
 begin-facts : (st : List Frame) (b : ℕ) → StepFacts Outside (length st) b (begin_move st b)
 begin-facts st b =
     let n = length st in
-    choose (StepFacts Outside n b) (b == 34) (state (InText place.Plain []) st) (begin_minus st b) (λ k. let q = quotes b n k in (tt, q.0, q.1)) (λ _.
-    choose (StepFacts Outside n b) (b == 45) (state (InNumber number.Minus (b ∷ [])) st) (begin_zero st b) (λ k. stays (InNumber number.Minus (b ∷ [])) st b tt refl (letter b 45 k refl refl refl)) (λ _.
-    choose (StepFacts Outside n b) (b == 48) (state (InNumber number.Zero (b ∷ [])) st) (begin_digit st b) (λ k. stays (InNumber number.Zero (b ∷ [])) st b tt refl (letter b 48 k refl refl refl)) (λ _.
-    choose (StepFacts Outside n b) (is_digit b) (state (InNumber number.Whole (b ∷ [])) st) (begin_array st b) (λ k. stays (InNumber number.Whole (b ∷ [])) st b tt refl (digit_plain b k)) (λ _.
-    choose (StepFacts Outside n b) (b == 91) (state AtFirstItem st) (begin_object st b) (λ k. let o = opens b 91 n k refl refl in (tt, o.0, o.1)) (λ _.
-    choose (StepFacts Outside n b) (b == 123) (state AtFirstName st) (begin_n st b) (λ k. let o = opens b 123 n k refl refl in (tt, o.0, o.1)) (λ _.
-    choose (StepFacts Outside n b) (b == 110) (state (InWord (codes "ull") Null) st) (begin_t st b) (λ k. stays (InWord (codes "ull") Null) st b (refl, refl) refl (letter b 110 k refl refl refl)) (λ _.
-    choose (StepFacts Outside n b) (b == 116) (state (InWord (codes "rue") (Truth true)) st) (begin_f st b) (λ k. stays (InWord (codes "rue") (Truth true)) st b (refl, refl) refl (letter b 116 k refl refl refl)) (λ _.
-    choose (StepFacts Outside n b) (b == 102) (state (InWord (codes "alse") (Truth false)) st) None (λ k. stays (InWord (codes "alse") (Truth false)) st b (refl, refl) refl (letter b 102 k refl refl refl)) (λ _. tt)))))))))
+    begins (StepFacts Outside n b) st b (record {
+      text = λ k. let q = quotes b n k in (tt, q.0, q.1);
+      minus = λ k. stays (InNumber number.Minus (b ∷ [])) st b tt refl (letter b 45 k refl refl refl);
+      zero = λ k. stays (InNumber number.Zero (b ∷ [])) st b tt refl (letter b 48 k refl refl refl);
+      digit = λ k. stays (InNumber number.Whole (b ∷ [])) st b tt refl (digit_plain b k);
+      array = λ k. let o = opens b 91 n k refl refl in (tt, o.0, o.1);
+      object = λ k. let o = opens b 123 n k refl refl in (tt, o.0, o.1);
+      null = λ k. stays (InWord (codes "ull") Null) st b (refl, refl) refl (letter b 110 k refl refl refl);
+      truth = λ k. stays (InWord (codes "rue") (Truth true)) st b (refl, refl) refl (letter b 116 k refl refl refl);
+      falsehood = λ k. stays (InWord (codes "alse") (Truth false)) st b (refl, refl) refl (letter b 102 k refl refl refl);
+      wrong = tt;
+    })
 
 -- ---- behind a value
 less_one : (n : ℕ) → n ≡ suc n - 1

@@ -7,22 +7,12 @@ use Rattle.vx_json.specs.declared.number_place.NumberPlace.{NumberPlace}
 use Rattle.vx_json.specs.declared.number_place.NumberPlace.TheVariants as number
 use Rattle.vx_json.proofs.Choices.{chosen, and_true}
 
--- a whole part, and what may follow it
-pub record WholeTail (t : ByteString) : Type 0 where
-  pub whole : ByteString
-  pub fraction : ByteString
-  pub exponent : ByteString
-  pub is_whole : is_whole_part whole ≡ true
-  pub is_fraction_part : is_fraction fraction ≡ true
-  pub is_exponent_part : is_exponent exponent ≡ true
-  pub joined : t ≡ whole ++ fraction ++ exponent
-
--- digits, perhaps none, and what may follow a whole part
-pub record DigitsTail (t : ByteString) : Type 0 where
+-- digits that pass a test, and what may follow a whole part
+pub record WholeTail (test : ByteString → Bool) (t : ByteString) : Type 0 where
   pub digits : ByteString
   pub fraction : ByteString
   pub exponent : ByteString
-  pub are : are_digits digits ≡ true
+  pub are : test digits ≡ true
   pub is_fraction_part : is_fraction fraction ≡ true
   pub is_exponent_part : is_exponent exponent ≡ true
   pub joined : t ≡ digits ++ fraction ++ exponent
@@ -45,9 +35,9 @@ pub record FractionTail (test : ByteString → Bool) (t : ByteString) : Type 0 w
 
 -- the rest of a number from a place on
 abbrev pub NumberTail : NumberPlace → ByteString → Type 0
-NumberTail number.Minus t = WholeTail t
+NumberTail number.Minus t = WholeTail is_whole_part t
 NumberTail number.Zero t = PartsTail t
-NumberTail number.Whole t = DigitsTail t
+NumberTail number.Whole t = WholeTail are_digits t
 NumberTail number.Point t = FractionTail some_digits t
 NumberTail number.Fraction t = FractionTail are_digits t
 NumberTail number.Mark t = are_signed_digits t ≡ true
@@ -76,16 +66,16 @@ whole-of-digits b ds z h k = rw z (and_true _ _ h k)
 whole-of-zero : (b : ℕ) → (b == 48) ≡ true → is_whole_part (b ∷ []) ≡ true
 whole-of-zero b z = rw z refl
 
-minus-sound : (b : ℕ) (t : ByteString) → NumberMoved (number_move number.Minus b) t → WholeTail (b ∷ t)
+minus-sound : (b : ℕ) (t : ByteString) → NumberMoved (number_move number.Minus b) t → WholeTail is_whole_part (b ∷ t)
 minus-sound b t h = ⊎_elim
-    (λ k. let p = k.1 in record { whole = b ∷ []; fraction = p.fraction; exponent = p.exponent; is_whole = whole-of-zero b k.0; is_fraction_part = p.is_fraction_part; is_exponent_part = p.is_exponent_part; joined = ap (λ r. b ∷ r) p.joined })
+    (λ k. let p = k.1 in record { digits = b ∷ []; fraction = p.fraction; exponent = p.exponent; are = whole-of-zero b k.0; is_fraction_part = p.is_fraction_part; is_exponent_part = p.is_exponent_part; joined = ap (λ r. b ∷ r) p.joined })
     (λ k. ⊎_elim
-    (λ l. let p = l.1 in record { whole = b ∷ p.digits; fraction = p.fraction; exponent = p.exponent; is_whole = whole-of-digits b p.digits k.0 l.0 p.are; is_fraction_part = p.is_fraction_part; is_exponent_part = p.is_exponent_part; joined = ap (λ r. b ∷ r) p.joined })
+    (λ l. let p = l.1 in record { digits = b ∷ p.digits; fraction = p.fraction; exponent = p.exponent; are = whole-of-digits b p.digits k.0 l.0 p.are; is_fraction_part = p.is_fraction_part; is_exponent_part = p.is_exponent_part; joined = ap (λ r. b ∷ r) p.joined })
     (λ l. absurd l.1)
     (chosen (λ z. NumberMoved z t) (is_digit b) (Some number.Whole) None k.1))
     (chosen (λ z. NumberMoved z t) (b == 48) (Some number.Zero) (cond (is_digit b) (Some number.Whole) None) h)
 
-whole-sound : (b : ℕ) (t : ByteString) → NumberMoved (number_move number.Whole b) t → DigitsTail (b ∷ t)
+whole-sound : (b : ℕ) (t : ByteString) → NumberMoved (number_move number.Whole b) t → WholeTail are_digits (b ∷ t)
 whole-sound b t h = ⊎_elim
     (λ k. let p = k.1 in record { digits = b ∷ p.digits; fraction = p.fraction; exponent = p.exponent; are = and_true _ _ k.0 p.are; is_fraction_part = p.is_fraction_part; is_exponent_part = p.is_exponent_part; joined = ap (λ r. b ∷ r) p.joined })
     (λ k. let p = after-whole-sound b t k.1 in record { digits = []; fraction = p.fraction; exponent = p.exponent; are = refl; is_fraction_part = p.is_fraction_part; is_exponent_part = p.is_exponent_part; joined = p.joined })
@@ -149,11 +139,11 @@ number-ends number.Sign h = cc
 number-ends number.Exponent h = refl
 
 -- ---- where numbers begin
-pub begins-minus : (b : ℕ) (t : ByteString) → (b == 45) ≡ true → WholeTail t → NumberParts (b ∷ t)
-begins-minus b t h p = record { minus = b ∷ []; whole = p.whole; fraction = p.fraction; exponent = p.exponent; is_minus_part = and_true _ _ h refl; is_whole = p.is_whole; is_fraction_part = p.is_fraction_part; is_exponent_part = p.is_exponent_part; joined = ap (λ r. b ∷ r) p.joined }
+pub begins-minus : (b : ℕ) (t : ByteString) → (b == 45) ≡ true → WholeTail is_whole_part t → NumberParts (b ∷ t)
+begins-minus b t h p = record { minus = b ∷ []; whole = p.digits; fraction = p.fraction; exponent = p.exponent; is_minus_part = and_true _ _ h refl; is_whole = p.are; is_fraction_part = p.is_fraction_part; is_exponent_part = p.is_exponent_part; joined = ap (λ r. b ∷ r) p.joined }
 
 pub begins-zero : (b : ℕ) (t : ByteString) → (b == 48) ≡ true → PartsTail t → NumberParts (b ∷ t)
 begins-zero b t h p = record { minus = []; whole = b ∷ []; fraction = p.fraction; exponent = p.exponent; is_minus_part = refl; is_whole = whole-of-zero b h; is_fraction_part = p.is_fraction_part; is_exponent_part = p.is_exponent_part; joined = ap (λ r. b ∷ r) p.joined }
 
-pub begins-digit : (b : ℕ) (t : ByteString) → (b == 48) ≡ false → is_digit b ≡ true → DigitsTail t → NumberParts (b ∷ t)
+pub begins-digit : (b : ℕ) (t : ByteString) → (b == 48) ≡ false → is_digit b ≡ true → WholeTail are_digits t → NumberParts (b ∷ t)
 begins-digit b t z h p = record { minus = []; whole = b ∷ p.digits; fraction = p.fraction; exponent = p.exponent; is_minus_part = refl; is_whole = whole-of-digits b p.digits z h p.are; is_fraction_part = p.is_fraction_part; is_exponent_part = p.is_exponent_part; joined = ap (λ r. b ∷ r) p.joined }

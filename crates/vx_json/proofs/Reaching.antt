@@ -23,21 +23,19 @@ use Rattle.vx_json.proofs.Soundness.{text-of}
 use Rattle.vx_json.proofs.Completeness.{text-outcome}
 
 -- ---- parts
+-- what comes of bytes in two parts, behind the byte that leads to them
+carry-parts : {A : Type 0} (o : Option State) (whole : Mode → List Frame → Option A) (front : Mode → List Frame → Option State) (rest : Mode → List Frame → Option A)
+    → ((n : Mode) (su : List Frame) → whole n su ≡ carry (front n su) rest) → carry o whole ≡ carry (carry o front) rest
+carry-parts None whole front rest h = refl
+carry-parts (Some s) whole front rest h = h s.mode s.stack
+
 pub reached-append : (p q : ByteString) (m : Mode) (st : List Frame) → reached m st (p ++ q) ≡ carry (reached m st p) (λ n su. reached n su q)
 reached-append [] q m st = refl
-reached-append (b ∷ p) q m st = by_step (step m st b) (λ n su. reached-append p q n su)
-  where
-    by_step : (o : Option State) → ((n : Mode) (su : List Frame) → reached n su (p ++ q) ≡ carry (reached n su p) (λ k sv. reached k sv q)) → carry o (λ n su. reached n su (p ++ q)) ≡ carry (carry o (λ n su. reached n su p)) (λ n su. reached n su q)
-    by_step None ih = refl
-    by_step (Some s) ih = ih s.mode s.stack
+reached-append (b ∷ p) q m st = carry-parts (step m st b) (λ n su. reached n su (p ++ q)) (λ n su. reached n su p) (λ n su. reached n su q) (λ n su. reached-append p q n su)
 
 pub outcome-append : (p q : ByteString) (m : Mode) (st : List Frame) → outcome m st (p ++ q) ≡ carry (reached m st p) (λ n su. outcome n su q)
 outcome-append [] q m st = refl
-outcome-append (b ∷ p) q m st = by_step (step m st b) (λ n su. outcome-append p q n su)
-  where
-    by_step : (o : Option State) → ((n : Mode) (su : List Frame) → outcome n su (p ++ q) ≡ carry (reached n su p) (λ k sv. outcome k sv q)) → carry o (λ n su. outcome n su (p ++ q)) ≡ carry (carry o (λ n su. reached n su p)) (λ n su. outcome n su q)
-    by_step None ih = refl
-    by_step (Some s) ih = ih s.mode s.stack
+outcome-append (b ∷ p) q m st = carry-parts (step m st b) (λ n su. outcome n su (p ++ q)) (λ n su. reached n su p) (λ n su. outcome n su q) (λ n su. outcome-append p q n su)
 
 -- what leads nowhere begins no text
 pub no-beginning : (p : ByteString) → reached AtValue [] p ≡ None → BeginsText p → ⊥

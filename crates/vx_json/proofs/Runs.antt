@@ -5,10 +5,10 @@ use Rattle.std.proofs.lemmas.Bool.Decides.{nat_tests}
 use Rattle.std.specs.Str.Lossy.{utf8_lossy}
 use Rattle.vx_value.specs.Texts.{ByteString, is_empty}
 use Rattle.vx_value.specs.Datum.{Datum, Words, NamedDatum}
-use Rattle.vx_json.specs.Numbers.{is_digit}
+use Rattle.vx_json.specs.Numbers.{is_digit, are_digits}
 use Rattle.vx_json.specs.Machine.{Goes, text_move, number_move, digits_move, Mode, Frame, InText, InName, InNumber, InWord, AtValue, AtFirstName, AtName, AtEnd, AtColon}
 use Rattle.vx_json.specs.Openings.{IsQuoted, IsPart}
-use Rattle.vx_json.specs.Runs.{is_plain, are_plain, all_digits, takes_digits, IsClosed, LeadsLevel}
+use Rattle.vx_json.specs.Runs.{is_plain, are_plain, takes_digits, IsClosed, LeadsLevel}
 use Rattle.vx_json.specs.declared.text_place.TextPlace.TheVariants as place
 use Rattle.vx_json.specs.WordViews.{word_rest, word_datum}
 use Rattle.vx_json.specs.declared.word_place.WordPlace.{WordPlace}
@@ -26,12 +26,12 @@ plain-append (x ∷ a) b h k = let l = both_true _ _ h in and_true _ _ l.0 (plai
 pub plain-next : (bytes : ByteString) (i : ℕ) → i < length bytes → is_plain (get_or bytes i 0) ≡ true → are_plain (take i bytes) ≡ true → are_plain (take (i + 1) bytes) ≡ true
 plain-next bytes i h p k = ap are_plain (take_more bytes i 0 h) ∙ plain-append (take i bytes) (get_or bytes i 0 ∷ []) k (and_true _ _ p refl)
 
-pub digits-append : (a b : ByteString) → all_digits a ≡ true → all_digits b ≡ true → all_digits (a ++ b) ≡ true
+pub digits-append : (a b : ByteString) → are_digits a ≡ true → are_digits b ≡ true → are_digits (a ++ b) ≡ true
 digits-append [] b h k = k
 digits-append (x ∷ a) b h k = let l = both_true _ _ h in and_true _ _ l.0 (digits-append a b l.1 k)
 
-pub digits-next : (bytes : ByteString) (i : ℕ) → i < length bytes → is_digit (get_or bytes i 0) ≡ true → all_digits (take i bytes) ≡ true → all_digits (take (i + 1) bytes) ≡ true
-digits-next bytes i h p k = ap all_digits (take_more bytes i 0 h) ∙ digits-append (take i bytes) (get_or bytes i 0 ∷ []) k (and_true _ _ p refl)
+pub digits-next : (bytes : ByteString) (i : ℕ) → i < length bytes → is_digit (get_or bytes i 0) ≡ true → are_digits (take i bytes) ≡ true → are_digits (take (i + 1) bytes) ≡ true
+digits-next bytes i h p k = ap are_digits (take_more bytes i 0 h) ∙ digits-append (take i bytes) (get_or bytes i 0 ∷ []) k (and_true _ _ p refl)
 
 -- ---- where they lead
 plain-goes : (b : ℕ) → is_plain b ≡ true → text_move place.Plain b ≡ Goes place.Plain (b ∷ [])
@@ -101,7 +101,7 @@ first-named-part fs w text st e q = rw e (first-begun w text st q)
 abbrev pub TakesDigits : NumberPlace → Type 0
 TakesDigits p = (b : ℕ) → is_digit b ≡ true → number_move p b ≡ Some p
 
-pub digits-run : (p : NumberPlace) (w run : ByteString) (st : List Frame) → TakesDigits p → all_digits run ≡ true → LeadsLevel (InNumber p w) st run (InNumber p (w ++ run))
+pub digits-run : (p : NumberPlace) (w run : ByteString) (st : List Frame) → TakesDigits p → are_digits run ≡ true → LeadsLevel (InNumber p w) st run (InNumber p (w ++ run))
 digits-run p w [] st t h = ap (λ x. InNumber p x) (sym (append-nil w))
 digits-run p w (b ∷ run) st t h =
     let k = both_true _ _ h in (
@@ -158,5 +158,5 @@ name-goes-on fs w v run st h e = subst (λ x. LeadsLevel (InName fs place.Plain 
 pub text-ends : (w bytes words : ByteString) (st : List Frame) → w ≡ [] → IsClosed bytes words → LeadsLevel (InText place.Plain w) st bytes (AtEnd (Words words))
 text-ends w bytes words st e c = subst (λ x. LeadsLevel (InText place.Plain x) st bytes (AtEnd (Words words))) (sym e) (text-closed bytes words st c)
 
-pub digits-go-on : (p : NumberPlace) (w v run : ByteString) (st : List Frame) → TakesDigits p → all_digits run ≡ true → v ≡ w ++ run → LeadsLevel (InNumber p w) st run (InNumber p v)
+pub digits-go-on : (p : NumberPlace) (w v run : ByteString) (st : List Frame) → TakesDigits p → are_digits run ≡ true → v ≡ w ++ run → LeadsLevel (InNumber p w) st run (InNumber p v)
 digits-go-on p w v run st t h e = subst (λ x. LeadsLevel (InNumber p w) st run (InNumber p x)) (sym e) (digits-run p w run st t h)

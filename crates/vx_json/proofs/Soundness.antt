@@ -12,7 +12,7 @@ use Rattle.vx_json.specs.Machine.{TextMove, Goes, Ends, Wrong, text_move, number
 use Rattle.vx_json.specs.declared.text_place.TextPlace.TheVariants as place
 use Rattle.vx_json.specs.declared.number_place.NumberPlace.{NumberPlace}
 use Rattle.vx_json.specs.declared.number_place.NumberPlace.TheVariants as number
-use Rattle.vx_json.proofs.Choices.{chosen, and_true, eq_of}
+use Rattle.vx_json.proofs.Choices.{chosen, choice, and_true, eq_of}
 use Rattle.vx_json.proofs.TextTails.{HasText, TextTail, Moved, text-sound}
 use Rattle.vx_json.proofs.NumberTails.{NumberTail, NumberMoved, number-sound, number-ends, begins-minus, begins-zero, begins-digit}
 use Rattle.vx_json.proofs.NumberValues.{lossy-number, number-syntax}
@@ -156,34 +156,16 @@ object-here b st rest d e (inr h) =
         join-members a n b c v e ms (125 ∷ m) ∙ sym (append_assoc (a ++ 34 ∷ (n ++ 34 ∷ []) ++ b ++ 58 ∷ c ++ v ++ e ++ ms) (125 ∷ []) m)
 
 begin-sound : (b : ℕ) (st : List Frame) (rest : ByteString) (d : Datum) → Onward (begin_move st b) rest d → Completes AtValue st (b ∷ rest) d
-begin-sound b st rest d h = ⊎_elim
-    (λ k. text-here b st rest d k.0 k.1)
-    (λ k. ⊎_elim
-    (λ l. number-here b number.Minus st rest d (λ t. begins-minus b t l.0) l.1)
-    (λ l. ⊎_elim
-    (λ m. number-here b number.Zero st rest d (λ t. begins-zero b t m.0) m.1)
-    (λ m. ⊎_elim
-    (λ n. number-here b number.Whole st rest d (λ t. begins-digit b t m.0 n.0) n.1)
-    (λ n. ⊎_elim
-    (λ o. array-here b st rest d o.0 o.1)
-    (λ o. ⊎_elim
-    (λ p. object-here b st rest d p.0 p.1)
-    (λ p. ⊎_elim
-    (λ q. word-here NullWord b 110 (codes "ull") st rest d tt refl q.0 q.1)
-    (λ q. ⊎_elim
-    (λ u. word-here (TruthWord true) b 116 (codes "rue") st rest d tt refl u.0 u.1)
-    (λ u. ⊎_elim
-    (λ v. word-here (TruthWord false) b 102 (codes "alse") st rest d tt refl v.0 v.1)
-    (λ v. absurd v.1)
-    (chosen (λ z. Onward z rest d) _ _ _ u.1))
-    (chosen (λ z. Onward z rest d) _ _ _ q.1))
-    (chosen (λ z. Onward z rest d) _ _ _ p.1))
-    (chosen (λ z. Onward z rest d) _ _ _ o.1))
-    (chosen (λ z. Onward z rest d) _ _ _ n.1))
-    (chosen (λ z. Onward z rest d) _ _ _ m.1))
-    (chosen (λ z. Onward z rest d) _ _ _ l.1))
-    (chosen (λ z. Onward z rest d) _ _ _ k.1))
-    (chosen (λ z. Onward z rest d) _ _ _ h)
+begin-sound b st rest d h =
+    choice (λ z. Onward z rest d) _ _ _ h (λ e k. text-here b st rest d e k) (λ _ h.
+    choice (λ z. Onward z rest d) _ _ _ h (λ e k. number-here b number.Minus st rest d (λ t. begins-minus b t e) k) (λ _ h.
+    choice (λ z. Onward z rest d) _ _ _ h (λ e k. number-here b number.Zero st rest d (λ t. begins-zero b t e) k) (λ other h.
+    choice (λ z. Onward z rest d) _ _ _ h (λ e k. number-here b number.Whole st rest d (λ t. begins-digit b t other e) k) (λ _ h.
+    choice (λ z. Onward z rest d) _ _ _ h (λ e k. array-here b st rest d e k) (λ _ h.
+    choice (λ z. Onward z rest d) _ _ _ h (λ e k. object-here b st rest d e k) (λ _ h.
+    choice (λ z. Onward z rest d) _ _ _ h (λ e k. word-here NullWord b 110 (codes "ull") st rest d tt refl e k) (λ _ h.
+    choice (λ z. Onward z rest d) _ _ _ h (λ e k. word-here (TruthWord true) b 116 (codes "rue") st rest d tt refl e k) (λ _ h.
+    choice (λ z. Onward z rest d) _ _ _ h (λ e k. word-here (TruthWord false) b 102 (codes "alse") st rest d tt refl e k) (λ _ h. absurd h)))))))))
 
 -- ---- inside texts, numbers and words
 name-sound : (m : TextMove) (fs : List NamedDatum) (w : ByteString) (st : List Frame) (rest : ByteString) (d : Datum) → Onward (name_move m fs w st) rest d → Moved m rest (λ t more. ColonTail fs (utf8_lossy (w ++ t)) st more d)

@@ -10,7 +10,7 @@ use Rattle.vx_json.specs.Strings.{is_hex, hex_value, is_short, short_byte, is_sp
 use Rattle.vx_json.specs.Machine.{TextMove, Goes, Ends, Wrong, text_move, lead_move, within_move, digit_move, code_move, first_code_move, is_character_code}
 use Rattle.vx_json.specs.declared.text_place.TextPlace.{TextPlace}
 use Rattle.vx_json.specs.declared.text_place.TextPlace.TheVariants as place
-use Rattle.vx_json.proofs.Choices.{chosen, both_true, and_true, eq_of, ne_of, lt_of, ge_of, le_of, range_of}
+use Rattle.vx_json.proofs.Choices.{chosen, choice, both_true, and_true, eq_of, ne_of, lt_of, ge_of, le_of, range_of}
 
 -- bytes are the pieces of a text, a quote and more
 pub record HasText (rest : ByteString) (next : ByteString → ByteString → Type 0) : Type 0 where
@@ -166,40 +166,26 @@ three-sound b low high rest next l begin h =
 
 -- the first byte of a character
 lead-sound : (b : ℕ) (rest : ByteString) (next : ByteString → ByteString → Type 0) → is_special b ≡ false → Moved (lead_move b) rest next → HasText (b ∷ rest) next
-lead-sound b rest next s h = ⊎_elim
-    (λ k. one-sound b rest next (lt_of b 0x80 k.0) s k.1)
-    (λ k. ⊎_elim
-    (λ l. absurd l.1)
-    (λ l. ⊎_elim
-    (λ m. last-sound b rest next (ge_of b 0xC2 l.0) (lt_of b 0xE0 m.0) m.1)
-    (λ m. ⊎_elim
-    (λ n. let e = eq_of b 0xE0 n.0 in two-sound b 0xA0 0xBF rest next (omega arith) (λ c r. begin-three b c (omega arith, omega arith) (omega arith, omega arith) (λ _. r.0) (λ x. omega arith)) n.1)
-    (λ n. ⊎_elim
-    (λ o. let e = eq_of b 0xED o.0 in two-sound b 0x80 0x9F rest next (omega arith) (λ c r. begin-three b c (omega arith, omega arith) (omega arith, omega arith) (λ x. omega arith) (λ _. r.1)) o.1)
-    (λ o. ⊎_elim
-    (λ p.
-    let low = ge_of b 0xE0 m.0 in
-    let high = lt_of b 0xF0 p.0 in
-    two-sound b 0x80 0xBF rest next (omega arith) (λ c r. begin-three b c (omega arith, omega arith) r (λ x. absurd (ne_of b 0xE0 n.0 x)) (λ x. absurd (ne_of b 0xED o.0 x))) p.1)
-    (λ p. ⊎_elim
-    (λ q. let e = eq_of b 0xF0 q.0 in three-sound b 0x90 0xBF rest next (omega arith) (λ c r. begin-four b c (omega arith, omega arith) (omega arith, omega arith) (λ _. r.0) (λ x. omega arith)) q.1)
-    (λ q. ⊎_elim
-    (λ u.
-    let low = ge_of b 0xF0 p.0 in
-    let high = lt_of b 0xF4 u.0 in
-    three-sound b 0x80 0xBF rest next (omega arith) (λ c r. begin-four b c (omega arith, omega arith) r (λ x. absurd (ne_of b 0xF0 q.0 x)) (λ x. omega arith)) u.1)
-    (λ u. ⊎_elim
-    (λ v. let e = eq_of b 0xF4 v.0 in three-sound b 0x80 0x8F rest next (omega arith) (λ c r. begin-four b c (omega arith, omega arith) (omega arith, omega arith) (λ x. omega arith) (λ _. r.1)) v.1)
-    (λ v. absurd v.1)
-    (chosen (λ z. Moved z rest next) _ _ _ u.1))
-    (chosen (λ z. Moved z rest next) _ _ _ q.1))
-    (chosen (λ z. Moved z rest next) _ _ _ p.1))
-    (chosen (λ z. Moved z rest next) _ _ _ o.1))
-    (chosen (λ z. Moved z rest next) _ _ _ n.1))
-    (chosen (λ z. Moved z rest next) _ _ _ m.1))
-    (chosen (λ z. Moved z rest next) _ _ _ l.1))
-    (chosen (λ z. Moved z rest next) _ _ _ k.1))
-    (chosen (λ z. Moved z rest next) _ _ _ h)
+lead-sound b rest next s h =
+    choice (λ z. Moved z rest next) _ _ _ h (λ e k. one-sound b rest next (lt_of b 0x80 e) s k) (λ _ h.
+    choice (λ z. Moved z rest next) _ _ _ h (λ e k. absurd k) (λ from_C2 h.
+    choice (λ z. Moved z rest next) _ _ _ h (λ e k. last-sound b rest next (ge_of b 0xC2 from_C2) (lt_of b 0xE0 e) k) (λ from_E0 h.
+    choice (λ z. Moved z rest next) _ _ _ h (λ e k.
+    let same = eq_of b 0xE0 e in two-sound b 0xA0 0xBF rest next (omega arith) (λ c r. begin-three b c (omega arith, omega arith) (omega arith, omega arith) (λ _. r.0) (λ x. omega arith)) k) (λ not_E0 h.
+    choice (λ z. Moved z rest next) _ _ _ h (λ e k.
+    let same = eq_of b 0xED e in two-sound b 0x80 0x9F rest next (omega arith) (λ c r. begin-three b c (omega arith, omega arith) (omega arith, omega arith) (λ x. omega arith) (λ _. r.1)) k) (λ not_ED h.
+    choice (λ z. Moved z rest next) _ _ _ h (λ e k.
+    let low = ge_of b 0xE0 from_E0 in
+    let high = lt_of b 0xF0 e in
+    two-sound b 0x80 0xBF rest next (omega arith) (λ c r. begin-three b c (omega arith, omega arith) r (λ x. absurd (ne_of b 0xE0 not_E0 x)) (λ x. absurd (ne_of b 0xED not_ED x))) k) (λ from_F0 h.
+    choice (λ z. Moved z rest next) _ _ _ h (λ e k.
+    let same = eq_of b 0xF0 e in three-sound b 0x90 0xBF rest next (omega arith) (λ c r. begin-four b c (omega arith, omega arith) (omega arith, omega arith) (λ _. r.0) (λ x. omega arith)) k) (λ not_F0 h.
+    choice (λ z. Moved z rest next) _ _ _ h (λ e k.
+    let low = ge_of b 0xF0 from_F0 in
+    let high = lt_of b 0xF4 e in
+    three-sound b 0x80 0xBF rest next (omega arith) (λ c r. begin-four b c (omega arith, omega arith) r (λ x. absurd (ne_of b 0xF0 not_F0 x)) (λ x. omega arith)) k) (λ _ h.
+    choice (λ z. Moved z rest next) _ _ _ h (λ e k.
+    let same = eq_of b 0xF4 e in three-sound b 0x80 0x8F rest next (omega arith) (λ c r. begin-four b c (omega arith, omega arith) (omega arith, omega arith) (λ x. omega arith) (λ _. r.1)) k) (λ _ h. absurd h)))))))))
 
 -- ---- escapes
 code-sound : (n : ℕ) (rest : ByteString) (next : ByteString → ByteString → Type 0) → Moved (code_move n) rest next → CodeTail n rest next

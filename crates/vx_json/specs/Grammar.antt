@@ -114,15 +114,11 @@ abbrev mutual
 abbrev mutual
   -- how many levels of brackets and braces a value opens
   pub levels : Syntax → ℕ
-  levels NullWord = 0
-  levels (TruthWord b) = 0
-  levels (WholeNumber z) = 0
-  levels (OtherNumber w) = 0
-  levels (String ps) = 0
   levels (EmptyArray b) = 1
   levels (Array b v c es) = suc (max (levels v) (element_levels es))
   levels (EmptyObject b) = 1
   levels (Object b n c d v e ms) = suc (max (levels v) (member_levels ms))
+  levels v = 0
 
   pub element_levels : Elements → ℕ
   element_levels NoElements = 0

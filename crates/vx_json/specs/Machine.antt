@@ -98,14 +98,11 @@ number_move number.Exponent b = if is_digit b then Some number.Exponent else Non
 
 -- whether a number may end at a place
 abbrev pub may_end : NumberPlace → Bool
-may_end number.Minus = false
 may_end number.Zero = true
 may_end number.Whole = true
-may_end number.Point = false
 may_end number.Fraction = true
-may_end number.Mark = false
-may_end number.Sign = false
 may_end number.Exponent = true
+may_end p = false
 
 -- whether a whole number has 64 bits
 abbrev pub is_within : ℤ → Bool

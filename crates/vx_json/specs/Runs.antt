@@ -2,7 +2,6 @@
 use Rattle.std.specs.Prelude.{◌≡◌, ℕ, Bool, true, false, ◌&&◌, ◌==◌, not, nat_le, nat_lt, List, [], ◌∷◌, ◌++◌}
 use Rattle.std.specs.Str.Lossy.{utf8_lossy}
 use Rattle.vx_value.specs.Texts.{ByteString}
-use Rattle.vx_json.specs.Numbers.{is_digit}
 use Rattle.vx_json.specs.declared.number_place.NumberPlace.{NumberPlace}
 use Rattle.vx_json.specs.declared.number_place.NumberPlace.TheVariants as number
 use Rattle.vx_json.specs.Machine.{Mode, Frame, state, step, height}
@@ -15,21 +14,12 @@ abbrev pub are_plain : ByteString → Bool
 are_plain [] = true
 are_plain (b ∷ w) = is_plain b && are_plain w
 
--- whether bytes are digits
-abbrev pub all_digits : ByteString → Bool
-all_digits [] = true
-all_digits (b ∷ w) = is_digit b && all_digits w
-
 -- whether each digit that comes at a place of a number leads to that place again
 abbrev pub takes_digits : NumberPlace → Bool
-takes_digits number.Minus = false
-takes_digits number.Zero = false
 takes_digits number.Whole = true
-takes_digits number.Point = false
 takes_digits number.Fraction = true
-takes_digits number.Mark = false
-takes_digits number.Sign = false
 takes_digits number.Exponent = true
+takes_digits p = false
 
 -- plain bytes and a quote behind them, which together end a text
 pub record IsClosed (w words : ByteString) : Type 0 where

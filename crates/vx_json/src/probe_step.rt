@@ -1,4 +1,5 @@
-ghost use Rattle.std.specs.Prelude.{◌≡◌, ℕ, ◌/◌, false};
+ghost use Rattle.std.specs.Prelude.{◌≡◌, ℕ, ◌/◌, ◌==◌, None, false, if◌then◌else◌};
+ghost use Rattle.vx_json.specs.Grammar.{is_blank};
 ghost use Rattle.vx_json.specs.Machine.{text_move};
 ghost use Rattle.vx_json.specs.ProbeModes as probe_modes;
 ghost use Rattle.vx_json.specs.ProbeModes.{open_probe_mode, begin_probe_mode, end_probe_mode, after_probe_mode, probe_mode_step, probe_mode_ends};
@@ -82,30 +83,16 @@ fn first_name(nesting: &mut Nesting, byte: u8) -> Option<ProbeMode>
     }
 }
 
-/// Where a byte leads behind a comma of an object.
-fn next_name(byte: u8) -> Option<ProbeMode>
-    ensures { (n : ℕ) → place_view result n ≡ probe_mode_step probe_modes.NextName n byte }
+/// Where a byte leads behind blanks where one byte has to come.
+fn expected(byte: u8, wanted: u8, here: ProbeMode, next: ProbeMode) -> Option<ProbeMode>
+    ensures { (n : ℕ) → place_view result n
+        ≡ (if is_blank byte then probe_modes.stands (probe_mode_view here) n
+        else (if byte == wanted then probe_modes.stands (probe_mode_view next) n else None)) }
 {
     if is_blank(byte) {
-        return Some(ProbeMode::NextName);
+        return Some(here);
     }
-    match byte {
-        b'"' => Some(ProbeMode::InName(TextPlace::Plain)),
-        _ => None,
-    }
-}
-
-/// Where a byte leads behind a name.
-fn colon(byte: u8) -> Option<ProbeMode>
-    ensures { (n : ℕ) → place_view result n ≡ probe_mode_step probe_modes.Colon n byte }
-{
-    if is_blank(byte) {
-        return Some(ProbeMode::Colon);
-    }
-    match byte {
-        b':' => Some(ProbeMode::Before),
-        _ => None,
-    }
+    if byte == wanted { Some(next) } else { None }
 }
 
 /// Where a byte leads inside a name.
@@ -209,9 +196,12 @@ impl ProbeMode {
             }
             ProbeMode::FirstItem => first_item(nesting, byte),
             ProbeMode::FirstName => first_name(nesting, byte),
-            ProbeMode::NextName => next_name(byte),
+            ProbeMode::NextName => {
+                let name = ProbeMode::InName(TextPlace::Plain);
+                expected(byte, b'"', ProbeMode::NextName, name)
+            }
             ProbeMode::InName(place) => in_name(place, byte),
-            ProbeMode::Colon => colon(byte),
+            ProbeMode::Colon => expected(byte, b':', ProbeMode::Colon, ProbeMode::Before),
             ProbeMode::Behind(is_object) => behind(nesting, is_object, byte),
             ProbeMode::InWord(word) => in_word(word, byte),
             ProbeMode::InNumber(place) => in_number(nesting, place, byte),

@@ -1,9 +1,9 @@
 ghost use Rattle.std.specs.Prelude.{◌≡◌, ℕ, ◌+◌, ◌++◌, [], ◌≤◌, List, true, length, take, IsTrue, IfOk, IfSome};
 ghost use Rattle.vx_json.specs.Machine as machine;
 ghost use Rattle.vx_json.specs.ModeViews.{mode_view};
-ghost use Rattle.vx_json.specs.Numbers.{is_digit};
+ghost use Rattle.vx_json.specs.Numbers.{is_digit, are_digits};
 ghost use Rattle.vx_json.specs.Openings.{IsOpened};
-ghost use Rattle.vx_json.specs.Runs.{are_plain, all_digits, takes_digits, IsClosed, LeadsLevel};
+ghost use Rattle.vx_json.specs.Runs.{are_plain, takes_digits, IsClosed, LeadsLevel};
 
 use crate::mode::Mode;
 use crate::number_place::NumberPlace;
@@ -34,7 +34,7 @@ fn takes_digits(place: NumberPlace) -> bool
 /// How many digits stand at the front.
 fn digits_len(bytes: &[u8]) -> usize
     ensures within { result ≤ length bytes.now }
-    ensures digits { all_digits (take result bytes.now) ≡ true }
+    ensures digits { are_digits (take result bytes.now) ≡ true }
 {
     for (i, b) in bytes.iter().enumerate() {
         if !is_digit(*b) {
@@ -117,7 +117,7 @@ fn begin_quoted(alloc: Global, bytes: &[u8]) -> Result<Option<(Opened, usize)>, 
 /// Adds the digits at the front, and answers how many they are.
 fn add_digits(text: &mut Vec<u8>, bytes: &[u8]) -> Result<usize, WantOfMemory>
     ensures within { IfOk result (λ n. n ≤ length bytes.now) }
-    ensures digits { IfOk result (λ n. all_digits (take n bytes.now) ≡ true) }
+    ensures digits { IfOk result (λ n. are_digits (take n bytes.now) ≡ true) }
     ensures added { IfOk result (λ n. text.new.items ≡ text.old.items ++ take n bytes.now) }
 {
     let n = digits_len(bytes);

@@ -20,6 +20,9 @@ use crate::word_place::WordPlace;
 use std::alloc::Global;
 use vx_value::{FieldList, Text, Value, ValueList, WantOfMemory};
 
+/// Where a byte leads. `None` where it may not stand there.
+type Stepped = Result<Option<Mode>, WantOfMemory>;
+
 /// Whether a byte is a blank.
 pub fn is_blank(b: u8) -> bool
     ensures { result ≡ is_blank b }
@@ -28,7 +31,7 @@ pub fn is_blank(b: u8) -> bool
 }
 
 /// Where a byte leads that begins a number.
-fn begin_number(alloc: Global, b: u8, place: NumberPlace) -> Result<Option<Mode>, WantOfMemory>
+fn begin_number(alloc: Global, b: u8, place: NumberPlace) -> Stepped
     ensures { IfOk result (λ next. (st : List machine.Frame) →
         state_view next st ≡ state (machine.InNumber place (b ∷ [])) st) }
 {
@@ -39,7 +42,7 @@ fn begin_number(alloc: Global, b: u8, place: NumberPlace) -> Result<Option<Mode>
 
 /// Where a byte leads that begins a value.
 #[inline(always)]
-fn begin(alloc: Global, b: u8) -> Result<Option<Mode>, WantOfMemory>
+fn begin(alloc: Global, b: u8) -> Stepped
     ensures { IfOk result
         (λ next. (st : List machine.Frame) → state_view next st ≡ begin_move st b) }
 {
@@ -59,7 +62,7 @@ fn begin(alloc: Global, b: u8) -> Result<Option<Mode>, WantOfMemory>
 
 /// Where a byte leads behind a bracket that opens an array.
 #[tactic(auto, using(crate::proofs::StackRules::stacks))]
-fn first_item(alloc: Global, stack: &mut Vec<Frame>, b: u8) -> Result<Option<Mode>, WantOfMemory>
+fn first_item(alloc: Global, stack: &mut Vec<Frame>, b: u8) -> Stepped
     ensures { IfOk result
         (λ next. state_view next (stack_view stack.new.items)
         ≡ step machine.AtFirstItem (stack_view stack.old.items) b) }
@@ -103,12 +106,7 @@ fn next_name(alloc: Global, fields: ObjectBuilder, b: u8) -> Option<Mode>
 
 /// Where a byte leads behind a name.
 #[tactic(auto, using(crate::proofs::StackRules::stacks))]
-fn colon(
-    fields: ObjectBuilder,
-    name: Text,
-    stack: &mut Vec<Frame>,
-    b: u8,
-) -> Result<Option<Mode>, WantOfMemory>
+fn colon(fields: ObjectBuilder, name: Text, stack: &mut Vec<Frame>, b: u8) -> Stepped
     ensures { IfOk result
         (λ next. state_view next (stack_view stack.new.items)
         ≡ step (machine.AtColon fields name) (stack_view stack.old.items) b) }
@@ -183,12 +181,7 @@ pub fn ends(step: TextMove) -> bool
 }
 
 /// Where a byte leads inside a text.
-fn in_text(
-    alloc: Global,
-    place: TextPlace,
-    text: Vec<u8>,
-    b: u8,
-) -> Result<Option<Mode>, WantOfMemory>
+fn in_text(alloc: Global, place: TextPlace, text: Vec<u8>, b: u8) -> Stepped
     ensures { IfOk result (λ next. (st : List machine.Frame) →
         state_view next st ≡ step (machine.InText place text.items) st b) }
 {
@@ -206,13 +199,7 @@ fn in_text(
 }
 
 /// Where a byte leads inside a name.
-fn in_name(
-    alloc: Global,
-    fields: ObjectBuilder,
-    place: TextPlace,
-    text: Vec<u8>,
-    b: u8,
-) -> Result<Option<Mode>, WantOfMemory>
+fn in_name(alloc: Global, fields: ObjectBuilder, place: TextPlace, text: Vec<u8>, b: u8) -> Stepped
     ensures { IfOk result (λ next. (st : List machine.Frame) →
         state_view next st ≡ step (machine.InName fields place text.items) st b) }
 {
@@ -232,12 +219,7 @@ fn in_name(
 /// Where a byte leads behind a value of an array.
 #[tactic(auto, using(crate::proofs::StackRules::stacks))]
 #[inline(always)]
-fn behind_item(
-    items: ValueList,
-    value: Value,
-    stack: &mut Vec<Frame>,
-    b: u8,
-) -> Result<Option<Mode>, WantOfMemory>
+fn behind_item(items: ValueList, value: Value, stack: &mut Vec<Frame>, b: u8) -> Stepped
     ensures { IfOk result (λ next. state_view next (stack_view stack.new.items)
         ≡ end_move (datum_of value) (machine.InItems items ∷ stack_view stack.old.items) b) }
 {
@@ -258,13 +240,7 @@ fn behind_item(
 
 /// Where a byte leads behind a value of an object.
 #[inline(always)]
-fn behind_field(
-    alloc: Global,
-    fields: ObjectBuilder,
-    name: Text,
-    value: Value,
-    b: u8,
-) -> Result<Option<Mode>, WantOfMemory>
+fn behind_field(alloc: Global, fields: ObjectBuilder, name: Text, value: Value, b: u8) -> Stepped
     ensures { IfOk result (λ next. (st : List machine.Frame) →
         state_view next st ≡ end_move (datum_of value) (machine.InFields fields name ∷ st) b) }
 {
@@ -283,12 +259,7 @@ fn behind_field(
 /// Where a byte that is no blank leads behind a value.
 #[tactic(auto, using(crate::proofs::StackRules::stacks))]
 #[inline(always)]
-fn end(
-    alloc: Global,
-    value: Value,
-    stack: &mut Vec<Frame>,
-    b: u8,
-) -> Result<Option<Mode>, WantOfMemory>
+fn end(alloc: Global, value: Value, stack: &mut Vec<Frame>, b: u8) -> Stepped
     ensures { IfOk result (λ next. state_view next (stack_view stack.new.items)
         ≡ end_move (datum_of value) (stack_view stack.old.items) b) }
 {
@@ -301,12 +272,7 @@ fn end(
 
 /// Where a byte leads behind a value.
 #[inline(always)]
-fn behind(
-    alloc: Global,
-    value: Value,
-    stack: &mut Vec<Frame>,
-    b: u8,
-) -> Result<Option<Mode>, WantOfMemory>
+fn behind(alloc: Global, value: Value, stack: &mut Vec<Frame>, b: u8) -> Stepped
     ensures { IfOk result (λ next. state_view next (stack_view stack.new.items)
         ≡ after_move (datum_of value) (stack_view stack.old.items) b) }
 {
@@ -323,7 +289,7 @@ fn in_number(
     text: Vec<u8>,
     stack: &mut Vec<Frame>,
     b: u8,
-) -> Result<Option<Mode>, WantOfMemory>
+) -> Stepped
     ensures { IfOk result (λ next. state_view next (stack_view stack.new.items)
         ≡ step (machine.InNumber place text.items) (stack_view stack.old.items) b) }
 {
@@ -341,12 +307,7 @@ fn in_number(
 
 impl Mode {
     /// Where a byte leads, and what is open then. `None` exactly where no JSON text goes on so.
-    pub fn step(
-        self,
-        alloc: Global,
-        stack: &mut Vec<Frame>,
-        b: u8,
-    ) -> Result<Option<Mode>, WantOfMemory>
+    pub fn step(self, alloc: Global, stack: &mut Vec<Frame>, b: u8) -> Stepped
         ensures { IfOk result (λ next. state_view next (stack_view stack.new.items)
             ≡ step (mode_view self) (stack_view stack.old.items) b) }
     {

@@ -18,9 +18,15 @@ use vx_value::{Value, WantOfMemory};
 /// How many levels of brackets and braces may be open at once.
 pub const DEEPEST: usize = 32;
 
+/// How many bytes at the front were read.
+type Count = Result<usize, WantOfMemory>;
+
+/// Where a reader stands then, and how many bytes at the front were read.
+type Reached = Result<(Mode, usize), WantOfMemory>;
+
 /// Opens an object at the front whose first name with its colon comes at once, and answers how many bytes these are. 0 where
 /// none does, or too many levels would be open.
-fn opened(stack: &mut Vec<Frame>, alloc: Global, bytes: &[u8]) -> Result<usize, WantOfMemory>
+fn opened(stack: &mut Vec<Frame>, alloc: Global, bytes: &[u8]) -> Count
     ensures within { IfOk result (λ n. n ≤ length bytes.now) }
     ensures leads { IfOk result (λ n. LeadsLow machine.AtValue (stack_view stack.old.items)
         (take n bytes.now) machine.AtValue (stack_view stack.new.items)) }
@@ -64,11 +70,7 @@ fn ended(stack: &mut Vec<Frame>, alloc: Global, value: Value) -> Result<Value, W
 }
 
 /// Ends the innermost of what is open behind a value, whose place its own value takes.
-fn end(
-    stack: &mut Vec<Frame>,
-    alloc: Global,
-    held: &mut Option<Value>,
-) -> Result<usize, WantOfMemory>
+fn end(stack: &mut Vec<Frame>, alloc: Global, held: &mut Option<Value>) -> Count
     ensures few { IfOk result (λ n. n ≤ 1) }
     ensures leads { IfOk result (λ n. (b : ℕ) (w : List ℕ) →
         EndsInnermost (stack_view stack.old.items) b →
@@ -85,31 +87,9 @@ fn end(
     }
 }
 
-/// Goes on behind a value as `Frame::next` does in the innermost of what is open.
-fn next(
-    stack: &mut Vec<Frame>,
-    alloc: Global,
-    held: &mut Option<Value>,
-    bytes: &[u8],
-) -> Result<usize, WantOfMemory>
-    ensures within { IfOk result (λ n. n ≤ length bytes.now) }
-    ensures leads { IfOk result (λ n. LeadsOn (held_view held.old)
-        (stack_view stack.old.items) (take n bytes.now) held.new (stack_view stack.new.items)) }
-{
-    match stack.last_mut() {
-        Some(frame) => frame.next(alloc, held, bytes),
-        None => Ok(0),
-    }
-}
-
 /// Goes on behind a value up to the next one, or up to the end of what is open around it, whose value then is the one that
 /// is held. Answers how many bytes that takes.
-fn followed(
-    stack: &mut Vec<Frame>,
-    alloc: Global,
-    held: &mut Option<Value>,
-    bytes: &[u8],
-) -> Result<usize, WantOfMemory>
+fn followed(stack: &mut Vec<Frame>, alloc: Global, held: &mut Option<Value>, bytes: &[u8]) -> Count
     ensures within { IfOk result (λ n. n ≤ length bytes.now) }
     ensures leads { IfOk result (λ n. LeadsOn (held_view held.old)
         (stack_view stack.old.items) (take n bytes.now) held.new (stack_view stack.new.items)) }
@@ -120,16 +100,14 @@ fn followed(
     if ends(stack, bytes[0]) {
         return end(stack, alloc, held);
     }
-    next(stack, alloc, held, bytes)
+    match stack.last_mut() {
+        Some(frame) => frame.next(alloc, held, bytes),
+        None => Ok(0),
+    }
 }
 
 /// Reads a number at the front and what follows it, as `followed` does.
-fn numbered(
-    stack: &mut Vec<Frame>,
-    alloc: Global,
-    held: &mut Option<Value>,
-    bytes: &[u8],
-) -> Result<usize, WantOfMemory>
+fn numbered(stack: &mut Vec<Frame>, alloc: Global, held: &mut Option<Value>, bytes: &[u8]) -> Count
     requires { held.old ≡ None }
     ensures within { IfOk result (λ n. n ≤ length bytes.now) }
     ensures leads { IfOk result (λ n. LeadsOn machine.AtValue
@@ -149,12 +127,7 @@ fn numbered(
 
 /// Goes on before a value: up to the first one in an object that opens, or behind it, which then is held. Answers how many
 /// bytes that takes.
-fn begun(
-    stack: &mut Vec<Frame>,
-    alloc: Global,
-    held: &mut Option<Value>,
-    bytes: &[u8],
-) -> Result<usize, WantOfMemory>
+fn begun(stack: &mut Vec<Frame>, alloc: Global, held: &mut Option<Value>, bytes: &[u8]) -> Count
     requires { held.old ≡ None }
     ensures within { IfOk result (λ n. n ≤ length bytes.now) }
     ensures leads { IfOk result (λ n. LeadsOn machine.AtValue
@@ -175,12 +148,7 @@ fn begun(
 
 /// Goes on once, before a value as `begun` does, or behind one as `followed` does.
 #[inline(always)]
-fn advanced(
-    stack: &mut Vec<Frame>,
-    alloc: Global,
-    held: &mut Option<Value>,
-    bytes: &[u8],
-) -> Result<usize, WantOfMemory>
+fn advanced(stack: &mut Vec<Frame>, alloc: Global, held: &mut Option<Value>, bytes: &[u8]) -> Count
     ensures within { IfOk result (λ n. n ≤ length bytes.now) }
     ensures leads { IfOk result (λ n. LeadsOn (held_view held.old)
         (stack_view stack.old.items) (take n bytes.now) held.new (stack_view stack.new.items)) }
@@ -192,12 +160,7 @@ fn advanced(
 }
 
 /// Goes on before a value or behind one as far as `advanced` does, and answers how many bytes that takes.
-fn walked(
-    stack: &mut Vec<Frame>,
-    alloc: Global,
-    held: &mut Option<Value>,
-    bytes: &[u8],
-) -> Result<usize, WantOfMemory>
+fn walked(stack: &mut Vec<Frame>, alloc: Global, held: &mut Option<Value>, bytes: &[u8]) -> Count
     ensures within { IfOk result (λ n. n ≤ length bytes.now) }
     ensures leads { IfOk result (λ n. LeadsOn (held_view held.old)
         (stack_view stack.old.items) (take n bytes.now) held.new (stack_view stack.new.items)) }
@@ -213,7 +176,7 @@ fn walked(
 }
 
 /// Reads on inside a text, a name, a number or a word, as `Mode::run` does.
-fn ran(mode: Mode, alloc: Global, bytes: &[u8]) -> Result<(Mode, usize), WantOfMemory>
+fn ran(mode: Mode, alloc: Global, bytes: &[u8]) -> Reached
     ensures within { IfOk result (λ p. p.1 ≤ length bytes.now) }
     ensures leads { IfOk result (λ p. (st : List machine.Frame) →
         LeadsLevel (mode_view mode) st (take p.1 bytes.now) (mode_view p.0)) }
@@ -234,12 +197,7 @@ fn standing(held: Option<Value>) -> Mode
 }
 
 /// Walks on from before a value or behind one, and reads on from where that leads.
-fn walked_on(
-    stack: &mut Vec<Frame>,
-    alloc: Global,
-    held: Option<Value>,
-    bytes: &[u8],
-) -> Result<(Mode, usize), WantOfMemory>
+fn walked_on(stack: &mut Vec<Frame>, alloc: Global, held: Option<Value>, bytes: &[u8]) -> Reached
     ensures within { IfOk result (λ p. p.1 ≤ length bytes.now) }
     ensures leads { IfOk result (λ p. height (held_view held) (stack_view stack.old.items) ≤ 32 →
         LeadsLow (held_view held) (stack_view stack.old.items) (take p.1 bytes.now)
@@ -252,12 +210,7 @@ fn walked_on(
 }
 
 /// Walks on as `walked_on` does where a reader stands before a value or behind one, and else reads on as `ran` does.
-fn walked_from(
-    mode: Mode,
-    stack: &mut Vec<Frame>,
-    alloc: Global,
-    bytes: &[u8],
-) -> Result<(Mode, usize), WantOfMemory>
+fn walked_from(mode: Mode, stack: &mut Vec<Frame>, alloc: Global, bytes: &[u8]) -> Reached
     ensures within { IfOk result (λ p. p.1 ≤ length bytes.now) }
     ensures leads { IfOk result (λ p. height (mode_view mode) (stack_view stack.old.items) ≤ 32 →
         LeadsLow (mode_view mode) (stack_view stack.old.items) (take p.1 bytes.now)
@@ -285,12 +238,7 @@ impl Mode {
 
     /// Reads the bytes at the front that can be read at once: members of objects and items of arrays that have no blanks
     /// and no escapes, and what `run` reads. Answers how many they are.
-    pub fn walk(
-        &mut self,
-        stack: &mut Vec<Frame>,
-        alloc: Global,
-        bytes: &[u8],
-    ) -> Result<usize, WantOfMemory>
+    pub fn walk(&mut self, stack: &mut Vec<Frame>, alloc: Global, bytes: &[u8]) -> Count
         ensures within { IfOk result (λ n. n ≤ length bytes.now) }
         ensures leads { IfOk result (λ n. height (mode_view self.old) (stack_view stack.old.items) ≤ 32 →
             LeadsLow (mode_view self.old) (stack_view stack.old.items) (take n bytes.now)

@@ -4,7 +4,7 @@ use std::process::Abort;
 use std::test::Fail;
 use vx_fixtures::{event_of_wholes, one};
 use vx_value::{
-    Bytes, Event, EventList, NumberList, Path, PathFault, PutFault, Queue, Text, TextList, Value,
+    Bytes, Event, EventList, NumberList, Path, PathFault, PutFault, Text, TextList, Value,
     ValueList, WantOfMemory,
 };
 
@@ -195,16 +195,4 @@ fn events_in_order(rt: HostRuntime) -> Result<(), Fail> {
     let one = event_of_wholes(rt.alloc(), &[(".a", 1)])?;
     let two = event_of_wholes(rt.alloc(), &[(".a", 2)])?;
     are_in_order(&rt, rt.alloc(), &one, &two)
-}
-
-#[test]
-fn queues_keep_their_room(rt: HostRuntime) -> Result<(), Fail> {
-    let mut queue = Queue::new(rt.alloc(), 1)?;
-    if !queue.is_full() {
-        queue.push(5u8);
-    }
-    assert_eq!(rt; queue.len(), 1);
-    assert_eq!(rt; queue.pop(), Some(5));
-    queue.end();
-    Ok(())
 }

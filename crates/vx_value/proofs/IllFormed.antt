@@ -1,5 +1,5 @@
 -- How many bytes one U+FFFD stands for, by the rows of characters.
-use Rattle.std.proofs.Common.{◌≡◌, ℕ, zero, suc, ◌<◌, ◌≤◌, Bool, true, false, cond, Option, Some, None, List, [], ◌∷◌, ◌++◌, length, take, arith, refl, sym, subst, ⊎_elim, nat_lt, ◌==◌}
+use Rattle.std.proofs.Common.{◌≡◌, ℕ, zero, suc, ◌<◌, ◌≤◌, Bool, true, false, cond, Option, Some, None, List, [], ◌⊎◌, inl, inr, ◌∷◌, ◌++◌, length, take, arith, refl, sym, subst, ⊎_elim, nat_lt, ◌==◌}
 use Rattle.std.specs.Prelude.{unwrap_or, MatchBool}
 use Rattle.std.specs.Int.{IsInRange, IsOutOfRange, is_in_range}
 use Rattle.std.specs.Str.Lossy.{second_byte_min, second_byte_max, error_len_after_two, error_len_of_some, utf8_invalid_len}
@@ -84,21 +84,8 @@ two-begin a b h f = record {
   second = second-plain a b f (λ e. omega arith) (λ e. omega arith) (λ e. omega arith) (λ e. omega arith);
 }
 
-three-begin : (a b : ℕ) → BeginThree a b → Begins a b
-three-begin a b h = record {
-  first = (omega arith, omega arith);
-  second = record {
-    least = omega arith;
-    most = omega arith;
-    three_least = λ e. omega arith;
-    three_most = λ e. omega arith;
-    four_least = λ e. omega arith;
-    four_most = λ e. omega arith;
-  };
-}
-
-four-begin : (a b : ℕ) → BeginFour a b → Begins a b
-four-begin a b h = record {
+more-begin : (a b : ℕ) → BeginThree a b ⊎ BeginFour a b → Begins a b
+more-begin a b h = record {
   first = (omega arith, omega arith);
   second = record {
     least = omega arith;
@@ -112,8 +99,8 @@ four-begin a b h = record {
 
 begins-of : (a b : ℕ) (t : List ℕ) → IsCharacter (a ∷ b ∷ t) → Begins a b
 begins-of a b [] h = two-begin a b h.0 h.1
-begins-of a b (c ∷ []) h = three-begin a b h.0
-begins-of a b (c ∷ d ∷ []) h = four-begin a b h.0
+begins-of a b (c ∷ []) h = more-begin a b (inl h.0)
+begins-of a b (c ∷ d ∷ []) h = more-begin a b (inr h.0)
 begins-of a b (c ∷ d ∷ e ∷ t) h = absurd h
 
 third-of : (a b c : ℕ) (t : List ℕ) → IsCharacter (a ∷ b ∷ c ∷ t) → GoesOn c

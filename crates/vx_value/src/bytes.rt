@@ -46,10 +46,8 @@ impl Bytes {
     pub fn copy_of(alloc: Global, bytes: &[u8]) -> Result<Self, WantOfMemory>
         ensures { IfOk result (λ copy. copy ≡ bytes.now) }
     {
-        match Vec::from_slice(alloc, bytes) {
-            Ok(bytes) => Ok(Bytes { bytes }),
-            Err(_) => Err(WantOfMemory),
-        }
+        let bytes = Vec::from_slice(alloc, bytes)?;
+        Ok(Bytes { bytes })
     }
 
     /// How many bytes there are.

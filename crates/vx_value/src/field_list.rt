@@ -62,10 +62,8 @@ impl FieldList {
     pub fn with_room(alloc: Global, room: usize) -> Result<Self, WantOfMemory>
         ensures { IfOk result (λ fields. fields ≡ []) }
     {
-        match Vec::with_capacity(alloc, room) {
-            Ok(fields) => Ok(FieldList { fields }),
-            Err(_) => Err(WantOfMemory),
-        }
+        let fields = Vec::with_capacity(alloc, room)?;
+        Ok(FieldList { fields })
     }
 
     /// How many fields there are.

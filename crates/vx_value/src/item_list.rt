@@ -38,10 +38,8 @@ impl<T> ItemList<T> {
     pub(crate) fn with_room(alloc: Global, room: usize) -> Result<Self, WantOfMemory>
         ensures items { IfOk result (λ list. list ≡ []) }
     {
-        match Vec::with_capacity(alloc, room) {
-            Ok(items) => Ok(ItemList { items }),
-            Err(_) => Err(WantOfMemory),
-        }
+        let items = Vec::with_capacity(alloc, room)?;
+        Ok(ItemList { items })
     }
 
     /// The list of a vector's items. It takes no memory.
@@ -147,9 +145,7 @@ impl ItemList<u64> {
     pub fn copy(&self) -> Result<NumberList, WantOfMemory>
         ensures { IfOk result (λ numbers. numbers ≡ self.now) }
     {
-        match self.items.clone() {
-            Ok(items) => Ok(ItemList { items }),
-            Err(_) => Err(WantOfMemory),
-        }
+        let items = self.items.clone()?;
+        Ok(ItemList { items })
     }
 }

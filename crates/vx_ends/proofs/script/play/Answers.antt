@@ -25,21 +25,14 @@ returns-in-StreamEnded-clause-observed c =
 
 pub returns-in-AllEnded-clause-observed : goal.returns-in-AllEnded-clause-observed
 returns-in-AllEnded-clause-observed c =
-    let steps = c.args.steps.now in
-    let at = c.args.place.step in
-    let within : at < length steps = omega arith in
-    reports_all_at steps at c.args.place.offset c.args.into.now within (rw c.in-AllEnded.is at c.index-steps-place.is)
+    reports_all_at c.args.steps.now c.args.place.step c.args.place.offset c.args.into.now (omega arith) (rw c.in-AllEnded.is at c.index-steps-place.is)
 
 pub returns-in-Idle-clause-observed : goal.returns-in-Idle-clause-observed
 returns-in-Idle-clause-observed c =
-    let steps = c.args.steps.now in
-    let at = c.args.place.step in
-    let within : at < length steps = omega arith in
-    reports_behind steps at c.args.place.offset Idle _ _ within (rw c.in-Idle.is at c.index-steps-place.is) (reports-idle (take at steps) (drop (at + 1) steps) c.args.into.now)
+    reports_behind c.args.steps.now c.args.place.step c.args.place.offset Idle _ _ (omega arith) (rw c.in-Idle.is at c.index-steps-place.is)
+    (reports-idle (take c.args.place.step c.args.steps.now) (drop (c.args.place.step + 1) c.args.steps.now) c.args.into.now)
 
 pub returns-in-Fail-clause-observed : goal.returns-in-Fail-clause-observed
 returns-in-Fail-clause-observed c =
-    let steps = c.args.steps.now in
-    let at = c.args.place.step in
-    let within : at < length steps = omega arith in
-    reports_behind steps at c.args.place.offset Fail _ _ within (rw c.in-Fail.is at c.index-steps-place.is) (reports-fail (take at steps) (drop (at + 1) steps) c.args.into.now)
+    reports_behind c.args.steps.now c.args.place.step c.args.place.offset Fail _ _ (omega arith) (rw c.in-Fail.is at c.index-steps-place.is)
+    (reports-fail (take c.args.place.step c.args.steps.now) (drop (c.args.place.step + 1) c.args.steps.now) c.args.into.now)
