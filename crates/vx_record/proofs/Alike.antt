@@ -59,9 +59,7 @@ some_full c [] some = absurd (omega (arith, some))
 some_full c (p ∷ ps) some = refl
 
 closed_not : (e a w : Bool) → e ≡ true → (e && (a || w)) ≡ false → w ≡ false
-closed_not true true w full off = cc
-closed_not true false w full off = off
-closed_not false a w full off = cc
+closed_not e a w full off = grind arith
 
 -- a batch to which one is added was never attempted
 taken_untried : (h : Record) (i s : ℕ) (copies : List ℕ) (c : ℕ) → IsLegal (Take i s copies ∷ h) →

@@ -5,7 +5,7 @@ use Rattle.std.proofs.lemmas.Bool.{eqb-true}
 use Rattle.vx_plan.specs.declared.class.Class.{Class}
 use Rattle.vx_plan.specs.declared.class.Class.TheVariants.{Source, Transform, Sink}
 use Rattle.vx_plan.specs.declared.component.Component.{Component}
-use Rattle.vx_plan.specs.Components.{is_source, is_transform, is_sink}
+use Rattle.vx_plan.specs.Components.{is_transform}
 use Rattle.vx_record.specs.Records.{Record}
 use Rattle.vx_record.specs.declared.output.Output.{Output}
 use Rattle.vx_record.specs.declared.entry.Entry.TheVariants.{Answer}
@@ -13,31 +13,24 @@ use Rattle.vx_record.specs.Installs.{component_of, source_at, transform_at, sink
 use Rattle.vx_record.specs.Legal.{IsLegal}
 use Rattle.vx_record.proofs.Ticks.{no_rule}
 
--- a source is no transform
-no_transform : (o : Option Component) → (elim o [ None ↦ false | Some c ↦ is_source c ]) ≡ true → (elim o [ None ↦ false | Some c ↦ is_transform c ]) ≡ false
-no_transform None is = refl
-no_transform (Some c) is = go c.class is
+-- what is of another class is no transform
+no_transform : (test : Class → Bool) → test Transform ≡ false → (o : Option Component) → (elim o [ None ↦ false | Some c ↦ test c.class ]) ≡ true →
+    (elim o [ None ↦ false | Some c ↦ is_transform c ]) ≡ false
+no_transform test none None is = refl
+no_transform test none (Some c) is = go c.class is
   where
-    go : (k : Class) → (elim k [ Source ↦ true | Transform ↦ false | Sink ↦ false ]) ≡ true → (elim k [ Source ↦ false | Transform ↦ true | Sink ↦ false ]) ≡ false
+    go : (k : Class) → test k ≡ true → (elim k [ Source ↦ false | Transform ↦ true | Sink ↦ false ]) ≡ false
     go Source is = refl
-    go Transform is = cc
+    go Transform is = let no : true ≡ false = sym is ∙ none in cc
     go Sink is = refl
 
+-- as a source
 pub source_untransforming : (h : Record) (i : ℕ) → source_at h i ≡ true → transform_at h i ≡ false
-source_untransforming h i is = no_transform (component_of h i) is
+source_untransforming h i is = no_transform (λ k. elim k [ Source ↦ true | Transform ↦ false | Sink ↦ false ]) refl (component_of h i) is
 
--- nor is a sink
-no_transform_too : (o : Option Component) → (elim o [ None ↦ false | Some c ↦ is_sink c ]) ≡ true → (elim o [ None ↦ false | Some c ↦ is_transform c ]) ≡ false
-no_transform_too None is = refl
-no_transform_too (Some c) is = go c.class is
-  where
-    go : (k : Class) → (elim k [ Source ↦ false | Transform ↦ false | Sink ↦ true ]) ≡ true → (elim k [ Source ↦ false | Transform ↦ true | Sink ↦ false ]) ≡ false
-    go Source is = refl
-    go Transform is = cc
-    go Sink is = refl
-
+-- and a sink
 pub sink_untransforming : (h : Record) (i : ℕ) → sink_at h i ≡ true → transform_at h i ≡ false
-sink_untransforming h i is = no_transform_too (component_of h i) is
+sink_untransforming h i is = no_transform (λ k. elim k [ Source ↦ false | Transform ↦ false | Sink ↦ true ]) refl (component_of h i) is
 
 -- who answers is one
 pub answerer : (h : Record) (i : ℕ) (made : List Output) (discarded kept : List ℕ) → IsLegal (Answer i made discarded kept ∷ h) → transform_at h i ≡ true

@@ -15,6 +15,7 @@ use Rattle.vx_record.proofs.Counts.{count-append, count-without, unless, unless-
 use Rattle.vx_record.proofs.OnePlace.{conserved}
 use Rattle.vx_record.proofs.Changes.{stands_once}
 use Rattle.vx_record.proofs.Entries.{answer_shrinks}
+use Rattle.vx_record.proofs.Attempted.{joined_and_rest}
 
 pub inputs_parted : InputsParted
 inputs_parted [] i = refl
@@ -28,15 +29,11 @@ inputs_parted (Answer j outputs discarded kept ∷ h) i = go (j == i) refl (inpu
 inputs_parted (e ∷ h) i =
     ap (λ xs. given_by h i e ++ xs) (inputs_parted h i) ∙ sym (append_assoc (given_by h i e) (unanswered h i) (answered h i))
 
-count-and_rest : (c : ℕ) (cs : List ℕ) (rest : List (List ℕ)) → count c (joined (and_rest cs rest)) ≡ count c cs + count c (joined rest)
-count-and_rest c [] rest = omega arith
-count-and_rest c (x ∷ xs) rest = count-append c (x ∷ xs) (joined rest)
-
 -- what stays of parcels without some copies
 pub count-shrunk : (c : ℕ) (gone : List ℕ) (ps : List (List ℕ)) → count c (joined (shrunk gone ps)) ≡ unless (count c gone) (count c (joined ps))
 count-shrunk c gone [] = sym (unless-zero (count c gone))
 count-shrunk c gone (p ∷ ps) =
-    let a = count-and_rest c (without gone p) (shrunk gone ps) in
+    let a = joined_and_rest c (without gone p) (shrunk gone ps) in
     let b = count-without c gone p in
     let d = count-shrunk c gone ps in
     let e = unless-add (count c gone) (count c p) (count c (joined ps)) in

@@ -11,13 +11,13 @@ use Rattle.vx_record.specs.Copies.{count, contains, joined, spends, all_of, time
 use Rattle.vx_record.specs.Places.{kind, leaves, put_out, puts}
 use Rattle.vx_record.specs.Places.Place.{Held}
 use Rattle.vx_record.specs.Lists.{without, and_rest, shrunk, held}
-use Rattle.vx_record.specs.Installs.{sink_at}
+use Rattle.vx_record.specs.Installs.{sink_at, transform_at}
 use Rattle.vx_record.specs.SinkBatches.{attempts_with}
 use Rattle.vx_record.specs.Moving.{IsConserved}
 use Rattle.vx_record.specs.Legal.{IsLegal}
 use Rattle.vx_record.proofs.Counts.{count-append, count-without, unless}
 use Rattle.vx_record.proofs.Changes.{parcels_after, put_at}
-use Rattle.vx_record.proofs.HeldCopies.{not_there, stands_still}
+use Rattle.vx_record.proofs.HeldCopies.{not_there}
 use Rattle.vx_record.proofs.Answerers.{sink_untransforming, unanswering}
 use Rattle.vx_record.proofs.OnePlace.{conserved as legal_conserved}
 
@@ -76,37 +76,46 @@ unreleased h i j c made discarded kept sound other some =
     apart : (j == i) ≡ false → (i == j) ≡ false
     apart e = grind (arith, nat_tests, e)
 
+-- whether an entry is an Answer of the instance
+abbrev pub answers : ℕ → Entry → Bool
+answers i (Answer j made discarded kept) = j == i
+answers i other = false
+
+-- what is held and isn't spent is held behind an entry too, but for what the instance answers
+pub held_on : (h : Record) (e : Entry) (i c : ℕ) → IsConserved (e ∷ h) → answers i e ≡ false → times_spent (e ∷ h) c ≡ 0 →
+    (times_spent h c ≡ 0 → 0 < count c (joined (held h i))) → 0 < count c (joined (held (e ∷ h) i))
+held_on h (Answer j made discarded kept) i c sound other none was =
+    let all = count-append c (all_of spends h) [] in
+    let here = was (omega (arith, none, all)) in
+    held_stays h (Answer j made discarded kept) i c sound (unreleased h i j c made discarded kept sound other here) here
+held_on h (Spent j d outcome) i c sound other none was =
+    let all = count-append c (all_of spends h) (d ∷ []) in held_stays h (Spent j d outcome) i c sound (omega (arith, none, all)) (was (omega (arith, none, all)))
+held_on h e i c sound other none was = let all = count-append c (all_of spends h) [] in held_stays h e i c sound refl (was (omega (arith, none, all)))
+
+-- who is no transform answers nothing
+unanswered_by : (h : Record) (e : Entry) (i : ℕ) → IsLegal (e ∷ h) → transform_at h i ≡ false → answers i e ≡ false
+unanswered_by h (Answer j made discarded kept) i legal other = unanswering h i j made discarded kept legal other
+unanswered_by h e i legal other = refl
+
 -- what was attempted and isn't spent is held
 pub attempted_held : (h : Record) (i c : ℕ) → IsLegal h → 0 < attempts_with h i c → times_spent h c ≡ 0 → 0 < count c (joined (held h i))
 attempted_held [] i c o l none = absurd (omega (arith, l))
 attempted_held (Attempt j copies bytes reply ∷ h) i c o l none =
-    subst (λ (ps : List (List ℕ)). 0 < count c (joined ps)) (sym (stands_still h (Attempt j copies bytes reply) (Held i) tt (legal_conserved h o.1)))
-    (go (j == i) refl l (attempted_held h i c o.1))
+    held_on h (Attempt j copies bytes reply) i c (legal_conserved (Attempt j copies bytes reply ∷ h) o) refl none (go (j == i) refl l (attempted_held h i c o.1))
   where
-    before : times_spent h c ≡ 0
-    before = let all = count-append c (all_of spends h) [] in omega (arith, none, all)
-
     named : (n m : ℕ) → n ≤ 0 → 0 < n + (if true && nat_lt 0 m then 1 else 0) → 0 < m
     named n zero few some = absurd (omega (arith, few, some))
     named n (suc m) few some = omega arith
 
-    go : (b : Bool) → (j == i) ≡ b → 0 < attempts_with h i c + (if b && contains copies c then 1 else 0) → (0 < attempts_with h i c → times_spent h c ≡ 0 → 0 < count c (joined (held h i))) → 0 < count c (joined (held h i))
-    go true e some rest = elim (cases_lt 0 (attempts_with h i c)) [
+    go : (b : Bool) → (j == i) ≡ b → 0 < attempts_with h i c + (if b && contains copies c then 1 else 0) → (0 < attempts_with h i c → times_spent h c ≡ 0 → 0 < count c (joined (held h i))) →
+        times_spent h c ≡ 0 → 0 < count c (joined (held h i))
+    go true e some rest before = elim (cases_lt 0 (attempts_with h i c)) [
       | inl tried ↦ rest tried before
       | inr few ↦
           let same : j ≡ i = grind (arith, nat_tests) in
           let here : 0 < count c (joined (held h j)) = subst (λ (cs : List ℕ). 0 < count c cs) o.0.row.all (named (attempts_with h i c) (count c copies) few some) in
           subst (λ (k : ℕ). 0 < count c (joined (held h k))) same here
     ]
-    go false e some rest = rest (omega (arith, some)) before
-attempted_held (Answer j made discarded kept ∷ h) i c o l none =
-    let all = count-append c (all_of spends h) [] in
-    let here = attempted_held h i c o.1 l (omega (arith, none, all)) in
-    let sound = legal_conserved (Answer j made discarded kept ∷ h) o in
-    held_stays h (Answer j made discarded kept) i c sound (unreleased h i j c made discarded kept sound (unanswering h i j made discarded kept o (sink_untransforming h i (attempts_sink h i c o.1 l))) here) here
-attempted_held (Spent j d outcome ∷ h) i c o l none =
-    let all = count-append c (all_of spends h) (d ∷ []) in
-    held_stays h (Spent j d outcome) i c (legal_conserved (Spent j d outcome ∷ h) o) (omega (arith, none, all)) (attempted_held h i c o.1 l (omega (arith, none, all)))
+    go false e some rest before = rest (omega (arith, some)) before
 attempted_held (e ∷ h) i c o l none =
-    let all = count-append c (all_of spends h) [] in
-    held_stays h e i c (legal_conserved (e ∷ h) o) refl (attempted_held h i c o.1 l (omega (arith, none, all)))
+    held_on h e i c (legal_conserved (e ∷ h) o) (unanswered_by h e i o (sink_untransforming h i (attempts_sink h i c o.1 l))) none (attempted_held h i c o.1 l)

@@ -1,7 +1,7 @@
 -- What is attempted: some copies, of a batch that is due, by a codec.
 use Rattle.std.proofs.Common.{◌≡◌, ℕ, ◌+◌, ◌<◌, Bool, true, false, ◌||◌, List, [], ◌∷◌, length, Option, Some, None, refl, sym, subst, arith, eq-eqb, inl, inr}
 use Rattle.std.specs.Prelude.{◌⊎◌, not, is_some, if◌then◌else◌}
-use Rattle.std.proofs.lemmas.Bool.{ltb-true}
+use Rattle.std.proofs.lemmas.Bool.{ltb-true, or_cases}
 use Rattle.vx_value.specs.Texts.{is_empty}
 use Rattle.vx_plan.specs.declared.class.Class.{Class}
 use Rattle.vx_plan.specs.declared.class.Class.TheVariants.{Source, Transform, Sink}
@@ -22,7 +22,7 @@ use Rattle.vx_record.specs.Turns.{lease_now}
 use Rattle.vx_record.specs.SinkBatches.{attempts_with, failures_with, oldest_held, is_full_batch, is_timed_out, is_last_batch, was_attempted}
 use Rattle.vx_record.specs.Promises.{AttemptNames, AttemptDue, AttemptEncodes}
 use Rattle.vx_record.proofs.Changes.{NoneEmpty, none_empty}
-use Rattle.vx_record.proofs.Promises.{and_left, and_right, either}
+use Rattle.vx_record.proofs.Promises.{and_left, and_right}
 use Rattle.vx_record.proofs.Bare.{none_held}
 use Rattle.vx_record.proofs.Untried.{held_failed}
 
@@ -44,7 +44,7 @@ first_counts (c ∷ cs) some = subst (λ (b : Bool). 0 < (if b then 1 else 0) + 
 
 pub attempt_due : AttemptDue
 attempt_due h i copies bytes answer legal row =
-    go (either (is_full_batch h i || is_timed_out h i (lease_now h i) || is_last_batch h i) (was_attempted h i)
+    go (or_cases (is_full_batch h i || is_timed_out h i (lease_now h i) || is_last_batch h i) (was_attempted h i)
     (and_right (not (is_empty (held h i))) (is_full_batch h i || is_timed_out h i (lease_now h i) || is_last_batch h i || was_attempted h i) row.batch_closed))
   where
     some : 0 < length (joined (held h i))

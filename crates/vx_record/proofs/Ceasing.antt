@@ -2,6 +2,7 @@
 use Rattle.std.proofs.Common.{◌≡◌, inl, inr, ℕ, ◌+◌, Bool, true, false, ◌&&◌, ◌||◌, List, [], ◌∷◌, Option, Some, None, IsSome, refl, ap, ◌∙◌}
 use Rattle.std.specs.Prelude.{if◌then◌else◌, ◌==◌}
 use Rattle.std.specs.List.{list_any}
+use Rattle.std.proofs.lemmas.Bool.{or_right, or_from}
 use Rattle.vx_plan.specs.declared.component.Component.{Component}
 use Rattle.vx_record.specs.Records.{Record}
 use Rattle.vx_record.specs.Abandoning.{abandoned}
@@ -32,12 +33,8 @@ has_abandoned (Abandon cause ∷ h) some = refl
 has_abandoned (e ∷ h) some = has_abandoned h some
 
 -- what was told stays told
-or_true : (a r : Bool) → r ≡ true → (a || r) ≡ true
-or_true true r e = refl
-or_true false r e = e
-
 ended_on : (h : Record) (i : ℕ) (e : Entry) → all_ended h i ≡ true → all_ended (e ∷ h) i ≡ true
-ended_on h i (Read j stream took) is = or_true ((j == i) && is_end took) (all_ended h i) is
+ended_on h i (Read j stream took) is = or_right ((j == i) && is_end took) (all_ended h i) is
 ended_on h i e is = is
 
 either_some : (t : Bool) (at : ℕ) (o : Option ℕ) → IsSome o → IsSome (if t then Some at else o)
@@ -57,10 +54,6 @@ more_on h i e (inl ended) = inl (ended_on h i e ended)
 more_on h i e (inr (inl lost)) = inr (inl (lost_on h i e lost))
 more_on h i e (inr (inr given)) = inr (inr (cause_on h e given))
 
-none_of : (a b : Bool) → a ≡ false → b ≡ false → (a || b) ≡ false
-none_of true b e f = cc
-none_of false b e f = f
-
 -- the first Install lets no instance drain
 unmarked_first : (from : ℕ) (components : List Component) (i : ℕ) → list_any (λ (instance : Instance). is_draining instance && (instance.number == i)) (first_instances from components) ≡ false
 unmarked_first from [] i = refl
@@ -69,7 +62,7 @@ unmarked_first from (c ∷ rest) i = unmarked_first (from + 1) rest i
 pub unmarked : (h : Record) (i : ℕ) → IsLegal h → is_marked h i ≡ false
 unmarked [] i legal = refl
 unmarked (Install version plan once instances now ∷ h) i legal =
-    none_of (list_any (λ (instance : Instance). is_draining instance && (instance.number == i)) instances) (is_marked h i)
+    or_from (list_any (λ (instance : Instance). is_draining instance && (instance.number == i)) instances) (is_marked h i)
     (ap (λ (is : List Instance). list_any (λ (instance : Instance). is_draining instance && (instance.number == i)) is) legal.0.row.all_new ∙ unmarked_first 0 plan.components i)
     (unmarked h i legal.1)
 unmarked (e ∷ h) i legal = unmarked h i legal.1

@@ -1,5 +1,5 @@
 -- A dry source stays dry.
-use Rattle.std.proofs.Common.{◌≡◌, ℕ, Bool, true, false, ◌∷◌, [], ◌++◌, refl, subst}
+use Rattle.std.proofs.Common.{◌≡◌, ℕ, Bool, true, false, ◌∷◌, [], ◌++◌, refl, subst, arith}
 use Rattle.std.specs.Prelude.{◌==◌, ◌&&◌, ◌||◌, not, if◌then◌else◌}
 use Rattle.vx_record.specs.Records.{Record}
 use Rattle.vx_record.specs.declared.entry.Entry.{Entry}
@@ -13,32 +13,19 @@ use Rattle.vx_record.specs.Finality.{DryStays}
 
 -- what is dry while it drains is so under a new lease
 leased_dry : (s e l d o : Bool) → (s && (e || l || (d && o))) ≡ true → (s && (e || l || (d && not (true && not d)))) ≡ true
-leased_dry false e l d o dry = cc
-leased_dry true true l d o dry = refl
-leased_dry true false true d o dry = refl
-leased_dry true false false true o dry = refl
-leased_dry true false false false o dry = cc
+leased_dry s e l d o dry = grind arith
 
 -- and unleased
 unleased_dry : (s e l d o : Bool) → (s && (e || l || (d && o))) ≡ true → (s && (e || l || (d && true))) ≡ true
-unleased_dry false e l d o dry = cc
-unleased_dry true true l d o dry = refl
-unleased_dry true false true d o dry = refl
-unleased_dry true false false true o dry = refl
-unleased_dry true false false false o dry = cc
+unleased_dry s e l d o dry = grind arith
 
 -- and where more was taken
 read_dry : (s x e l d : Bool) → (s && (e || l || d)) ≡ true → (s && ((x || e) || l || d)) ≡ true
-read_dry false x e l d dry = cc
-read_dry true true e l d dry = refl
-read_dry true false e l d dry = dry
+read_dry s x e l d dry = grind arith
 
 -- and where it was lost
 lost_dry : (s x e l d : Bool) → (s && (e || l || d)) ≡ true → (s && (e || (x || l) || d)) ≡ true
-lost_dry false x e l d dry = cc
-lost_dry true x true l d dry = refl
-lost_dry true true false l d dry = refl
-lost_dry true false false l d dry = dry
+lost_dry s x e l d dry = grind arith
 
 -- behind one more entry
 pub dry_on : (h : Record) (e : Entry) (i : ℕ) → IsLegal (e ∷ h) → is_dry h i ≡ true → is_dry (e ∷ h) i ≡ true

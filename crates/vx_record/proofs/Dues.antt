@@ -2,7 +2,7 @@
 use Rattle.std.proofs.Common.{◌≡◌, ℕ, zero, suc, ◌+◌, ◌<◌, ◌≤◌, Bool, true, false, ◌∷◌, refl, sym, ap, ◌∙◌, subst, arith, inl, inr}
 use Rattle.std.specs.Prelude.{◌==◌, ◌&&◌, ◌⊎◌, not}
 use Rattle.std.specs.List.{list_any}
-use Rattle.std.proofs.lemmas.Bool.{cases_lt, and_parts, and_from, or_parts, or_from, eqb-true, eq-eqb}
+use Rattle.std.proofs.lemmas.Bool.{cases_lt, and_parts, and_from, or_parts, or_from, not-true, eqb-true, eq-eqb}
 use Rattle.vx_record.specs.Records.{Record}
 use Rattle.vx_record.specs.declared.entry.Entry.TheVariants.{Spent}
 use Rattle.vx_record.specs.Copies.{counting, next_copy, times_split, times_spent, IsLive}
@@ -37,10 +37,6 @@ each_counting test from (suc n) each =
     (each_counting test (from + 1) n (λ c low high. each c (omega (arith, low)) (omega (arith, high))))
 
 -- COPIES
-not_false : (a : Bool) → not a ≡ true → a ≡ false
-not_false true e = cc
-not_false false e = refl
-
 pub none_live : (h : Record) (b : ℕ) → has_live h b ≡ false → NoneLive h b
 none_live h b none c same live =
     let off = none_counting (is_live_of h b) 0 (next_copy h) c none (omega arith) (omega (arith, live.0)) in
@@ -62,7 +58,7 @@ has_none_live h b none = each_counting (is_live_of h b) 0 (next_copy h) (λ c lo
 pub awaits : (h : Record) (b : ℕ) → awaits_notice h b ≡ true → Awaits h b
 awaits (Spent i c outcome ∷ h) b is =
     let parts = and_parts (batch_of h c == b) (not (has_live (Spent i c outcome ∷ h) b)) is in
-    (eqb-true (batch_of h c) b parts.0, none_live (Spent i c outcome ∷ h) b (not_false (has_live (Spent i c outcome ∷ h) b) parts.1))
+    (eqb-true (batch_of h c) b parts.0, none_live (Spent i c outcome ∷ h) b (not-true (has_live (Spent i c outcome ∷ h) b) parts.1))
 awaits h b is = cc
 
 pub awaits_so : (h : Record) (b : ℕ) → Awaits h b → awaits_notice h b ≡ true

@@ -4,6 +4,8 @@ use Rattle.std.specs.List.{list_any}
 use Rattle.std.proofs.Common.{sym, ◌∙◌, ap, arith, eq-eqb}
 use Rattle.std.proofs.lemmas.List.{append-nil}
 use Rattle.std.proofs.lemmas.Bool.Decides.{nat_tests}
+use Rattle.std.proofs.lemmas.Bool.{and_parts, or_right}
+use Rattle.vx_value.proofs.Order.{same_text-true, same_text-refl}
 use Rattle.vx_value.specs.Texts.{ByteString, same_text}
 use Rattle.vx_plan.specs.declared.component.Component.{Component}
 use Rattle.vx_plan.specs.declared.plan.Plan.{Plan}
@@ -94,25 +96,6 @@ targets_of_first plan once now k port c at =
     ap (λ (o : Option Wiring). elim o [ None ↦ [] | Some w ↦ wired_targets port w ]) (wiring_of_first plan once now k c at)
     ∙ numbers_of_all plan.components (targets plan c.name port)
 
-same_refl : (w : ByteString) → same_text w w ≡ true
-same_refl [] = refl
-same_refl (a ∷ w) = let here : (a == a) ≡ true = eq-eqb a a refl in rw here (same_refl w)
-
-both : (a b : Bool) → (a && b) ≡ true → (a ≡ true) × (b ≡ true)
-both true b e = (refl, e)
-both false b e = cc
-
--- texts that are the same are equal
-same_means : (v w : ByteString) → same_text v w ≡ true → v ≡ w
-same_means [] [] e = refl
-same_means [] (b ∷ w) e = cc
-same_means (a ∷ v) [] e = cc
-same_means (a ∷ v) (b ∷ w) e =
-    let (first, rest) = both (a == b) (same_text v w) e in
-    let head : a ≡ b = grind (arith, nat_tests) in
-    let tail : v ≡ w = same_means v w rest in
-    cc
-
 -- a test that an item passes, some item passes
 any_at : (test : Component → Bool) (components : List Component) (k : ℕ) (c : Component) → slice_get components k ≡ Some c → test c ≡ true →
     list_any test components ≡ true
@@ -120,11 +103,7 @@ any_at test [] k c at passes = cc
 any_at test (d ∷ rest) zero c at passes =
     let same : d ≡ c = cc in
     ap (λ x. test x || list_any test rest) same ∙ ap (λ b. b || list_any test rest) passes
-any_at test (d ∷ rest) (suc k) c at passes = or_true (test d) (list_any test rest) (any_at test rest k c at passes)
-  where
-    or_true : (a b : Bool) → b ≡ true → (a || b) ≡ true
-    or_true true b e = refl
-    or_true false b e = e
+any_at test (d ∷ rest) (suc k) c at passes = or_right (test d) (list_any test rest) (any_at test rest k c at passes)
 
 -- the component of a name among some whose names differ
 pub found : (components : List Component) (k : ℕ) (c : Component) → names_differ components ≡ true → slice_get components k ≡ Some c →
@@ -132,17 +111,17 @@ pub found : (components : List Component) (k : ℕ) (c : Component) → names_di
 found [] k c differ at = cc
 found (d ∷ rest) zero c differ at =
     let same : d ≡ c = cc in
-    let named : same_text d.name c.name ≡ true = ap (λ (x : Component). same_text x.name c.name) same ∙ same_refl c.name in
+    let named : same_text d.name c.name ≡ true = ap (λ (x : Component). same_text x.name c.name) same ∙ same_text-refl c.name in
     rw named (ap (λ (x : Component). Some x) same)
 found (d ∷ rest) (suc k) c differ at = go (same_text d.name c.name) refl (λ rest_differ. found rest k c rest_differ at)
   where
     go : (b : Bool) → same_text d.name c.name ≡ b → (names_differ rest ≡ true → find (λ (x : Component). same_text x.name c.name) rest ≡ Some c) → find (λ (x : Component). same_text x.name c.name) (d ∷ rest) ≡ Some c
-    go false other found_later = rw other (found_later (both (not (list_any (λ (x : Component). same_text x.name d.name) rest)) (names_differ rest) differ).1)
+    go false other found_later = rw other (found_later (and_parts (not (list_any (λ (x : Component). same_text x.name d.name) rest)) (names_differ rest) differ).1)
     go true same found_later =
-        let names : c.name ≡ d.name = sym (same_means d.name c.name same) in
-        let passes : same_text c.name d.name ≡ true = ap (λ n. same_text n d.name) names ∙ same_refl d.name in
+        let names : c.name ≡ d.name = sym (same_text-true d.name c.name same) in
+        let passes : same_text c.name d.name ≡ true = ap (λ n. same_text n d.name) names ∙ same_text-refl d.name in
         let any = any_at (λ (x : Component). same_text x.name d.name) rest k c at passes in
-        let none = (both (not (list_any (λ (x : Component). same_text x.name d.name) rest)) (names_differ rest) differ).0 in
+        let none = (and_parts (not (list_any (λ (x : Component). same_text x.name d.name) rest)) (names_differ rest) differ).0 in
         let clash = sym (ap (λ b. not b) any) ∙ none in
         cc
 

@@ -3,6 +3,7 @@ use Rattle.std.proofs.Common.{◌≡◌, ℕ, ◌+◌, Bool, true, false, cond, 
 use Rattle.std.specs.Prelude.{take_while, ◌==◌}
 use Rattle.std.proofs.lemmas.List.{append-nil, append_assoc}
 use Rattle.std.proofs.lemmas.List.Sums.{take_while-cons}
+use Rattle.std.proofs.lemmas.Bool.{or_right}
 use Rattle.vx_record.specs.declared.child.Child.{Child}
 use Rattle.vx_record.specs.declared.entry.Entry.{Entry}
 use Rattle.vx_record.specs.declared.entry.Entry.TheVariants.{Lease, Born, Split, Notice}
@@ -57,10 +58,6 @@ run_grows p q (x ∷ xs) ys weaker = go (p x) refl (q x) refl (run_grows p q xs 
         (ih.0, first_passes q x (xs ++ ys) f ∙ ap (λ r. x ∷ r) ih.1 ∙ sym (ap (λ r. r ++ ih.0) (first_passes p x xs e)))
     go true e false f ih = let g = weaker x e in absurd (cc)
     go false e c f ih = (take_while q (x ∷ (xs ++ ys)), sym (ap (λ r. r ++ take_while q (x ∷ (xs ++ ys))) (first_fails p x xs e)))
-
-or_right : (a b : Bool) → b ≡ true → (a || b) ≡ true
-or_right true b e = refl
-or_right false b e = e
 
 delivered_stays : (e : Entry) (h : Record) (b : ℕ) → was_delivered h b ≡ true → was_delivered (e ∷ h) b ≡ true
 delivered_stays (Notice b' status) h b d = or_right ((b' == b) && is_delivered status) (was_delivered h b) d

@@ -1,20 +1,19 @@
 -- How one more entry changes bytes, confirms and counts: by the kind of the entry.
-use Rattle.std.proofs.Common.{◌≡◌, ℕ, true, ◌∷◌, refl, sym, arith, length}
+use Rattle.std.proofs.Common.{◌≡◌, ◌∙◌, ℕ, Option, Some, None, ◌∷◌, refl, sym, ap, arith, length}
 use Rattle.std.proofs.lemmas.List.{append-nil}
 use Rattle.std.proofs.lemmas.List.{length-append}
 use Rattle.vx_record.specs.declared.entry.Entry.{Entry}
 use Rattle.vx_record.specs.declared.entry.Entry.TheVariants.{Lease, Home, Read, Idle, SourceLost, Born, Take, Tick, Answer, Attempt, Notice, Closed, Retired, Abandon}
-use Rattle.vx_plan.specs.declared.class.Class.{Class}
 use Rattle.vx_plan.specs.declared.class.Class.TheVariants.{Source, Transform, Sink}
 use Rattle.vx_plan.specs.declared.component.Component.{Component}
 use Rattle.vx_record.specs.Records.{Record}
-use Rattle.vx_record.specs.Installs.{component_or}
+use Rattle.vx_record.specs.Installs.{component_of}
 use Rattle.vx_record.specs.declared.tally.Tally.{Tally}
 use Rattle.vx_record.specs.Tally.{nothing_counted}
-use Rattle.vx_record.specs.Tallies.{source_tally, transform_tally, sink_tally}
-use Rattle.vx_record.specs.Growth.{counts_for_nobody}
+use Rattle.vx_record.specs.Tallies.{source_tally, transform_tally, sink_tally, tally}
 use Rattle.vx_record.specs.Reads.{taken}
-use Rattle.vx_record.specs.Confirms.{births, births_in}
+use Rattle.vx_record.specs.Places.{all_puts}
+use Rattle.vx_record.specs.Confirms.{births, births_in, confirmed}
 use Rattle.vx_record.specs.Reads.{bytes_taken}
 use Rattle.vx_record.specs.Tallies.{lines_read, overlong_read, undecodable_read, events_born, notices, takes, sent_parcels, dropped_parcels, attempts_made, bytes_sent}
 use Rattle.vx_status.specs.declared.batch_status.BatchStatus.{BatchStatus}
@@ -89,55 +88,27 @@ transform_rises = (takes_rise, outputs_rise, dropped_rise)
 pub sink_rises : SinkRises
 sink_rises = (takes_rise, attempts_rise, sent_rise)
 
-source_stays : (e : Entry) (h : Record) (i : ℕ) → counts_for_nobody e ≡ true → source_tally (e ∷ h) i ≡ source_tally h i
-source_stays (Lease j worker now polls) h i q = simp append-nil
-source_stays (Home j) h i q = simp append-nil
-source_stays (Idle j failed) h i q = simp append-nil
-source_stays (SourceLost j at failed) h i q = simp append-nil
-source_stays (Tick j now) h i q = simp append-nil
-source_stays (Closed j) h i q = simp append-nil
-source_stays (Retired j) h i q = simp append-nil
-source_stays (Abandon cause) h i q = simp append-nil
-source_stays other h i q = absurd (cc)
+-- the counts that an instance would have as a source, a transform and a sink
+abbrev by_class : Record → ℕ → Tally × Tally × Tally
+by_class h i = (source_tally h i, transform_tally h i, sink_tally h i)
 
-transform_stays : (e : Entry) (h : Record) (i : ℕ) → counts_for_nobody e ≡ true → transform_tally (e ∷ h) i ≡ transform_tally h i
-transform_stays (Lease j worker now polls) h i q = simp append-nil
-transform_stays (Home j) h i q = simp append-nil
-transform_stays (Idle j failed) h i q = simp append-nil
-transform_stays (SourceLost j at failed) h i q = simp append-nil
-transform_stays (Tick j now) h i q = simp append-nil
-transform_stays (Closed j) h i q = simp append-nil
-transform_stays (Retired j) h i q = simp append-nil
-transform_stays (Abandon cause) h i q = simp append-nil
-transform_stays other h i q = absurd (cc)
+-- where all of them stay, its counts do
+same_tally : (e : Entry) (h : Record) (i : ℕ) → component_of (e ∷ h) i ≡ component_of h i → by_class (e ∷ h) i ≡ by_class h i → tally (e ∷ h) i ≡ tally h i
+same_tally e h i runs same = go runs same
+  where
+    counts : Option Component → Tally × Tally × Tally → Tally
+    counts o all = elim o [ None ↦ nothing_counted | Some c ↦ elim c.class [ Source ↦ all.0 | Transform ↦ all.1 | Sink ↦ all.2 ] ]
 
-sink_stays : (e : Entry) (h : Record) (i : ℕ) → counts_for_nobody e ≡ true → sink_tally (e ∷ h) i ≡ sink_tally h i
-sink_stays (Lease j worker now polls) h i q = simp append-nil
-sink_stays (Home j) h i q = simp append-nil
-sink_stays (Idle j failed) h i q = simp append-nil
-sink_stays (SourceLost j at failed) h i q = simp append-nil
-sink_stays (Tick j now) h i q = simp append-nil
-sink_stays (Closed j) h i q = simp append-nil
-sink_stays (Retired j) h i q = simp append-nil
-sink_stays (Abandon cause) h i q = simp append-nil
-sink_stays other h i q = absurd (cc)
-
--- whatever the class
-class_stays : (k : Class) (e : Entry) (h : Record) (i : ℕ) → counts_for_nobody e ≡ true →
-    ◌≡◌ {A = Tally}
-    (elim k as (λ _. Tally) [ Source ↦ source_tally (e ∷ h) i | Transform ↦ transform_tally (e ∷ h) i | Sink ↦ sink_tally (e ∷ h) i ])
-    (elim k as (λ _. Tally) [ Source ↦ source_tally h i | Transform ↦ transform_tally h i | Sink ↦ sink_tally h i ])
-class_stays Source e h i q = source_stays e h i q
-class_stays Transform e h i q = transform_stays e h i q
-class_stays Sink e h i q = sink_stays e h i q
+    go : {o o' : Option Component} {all all' : Tally × Tally × Tally} → o ≡ o' → all ≡ all' → counts o all ≡ counts o' all'
+    go {o' = o'} {all = all} p q = ap (λ o. counts o all) p ∙ ap (counts o') q
 
 pub tally_stays : TallyStays
-tally_stays (Lease j worker now polls) h i q = λ t. component_or nothing_counted (λ (c : Component). class_stays c.class (Lease j worker now polls) h i q t) h i
-tally_stays (Home j) h i q = λ t. component_or nothing_counted (λ (c : Component). class_stays c.class (Home j) h i q t) h i
-tally_stays (Idle j failed) h i q = λ t. component_or nothing_counted (λ (c : Component). class_stays c.class (Idle j failed) h i q t) h i
-tally_stays (SourceLost j at failed) h i q = λ t. component_or nothing_counted (λ (c : Component). class_stays c.class (SourceLost j at failed) h i q t) h i
-tally_stays (Tick j now) h i q = λ t. component_or nothing_counted (λ (c : Component). class_stays c.class (Tick j now) h i q t) h i
-tally_stays (Closed j) h i q = λ t. component_or nothing_counted (λ (c : Component). class_stays c.class (Closed j) h i q t) h i
-tally_stays (Retired j) h i q = λ t. component_or nothing_counted (λ (c : Component). class_stays c.class (Retired j) h i q t) h i
-tally_stays (Abandon cause) h i q = λ t. component_or nothing_counted (λ (c : Component). class_stays c.class (Abandon cause) h i q t) h i
+tally_stays (Lease j worker now polls) h i q = same_tally (Lease j worker now polls) h i refl (rw (append-nil (births h i), append-nil (all_puts h), append-nil (confirmed h i)) refl)
+tally_stays (Home j) h i q = same_tally (Home j) h i refl (rw (append-nil (births h i), append-nil (all_puts h), append-nil (confirmed h i)) refl)
+tally_stays (Idle j failed) h i q = same_tally (Idle j failed) h i refl (rw (append-nil (births h i), append-nil (all_puts h), append-nil (confirmed h i)) refl)
+tally_stays (SourceLost j at failed) h i q = same_tally (SourceLost j at failed) h i refl (rw (append-nil (births h i), append-nil (all_puts h), append-nil (confirmed h i)) refl)
+tally_stays (Tick j now) h i q = same_tally (Tick j now) h i refl (rw (append-nil (births h i), append-nil (all_puts h), append-nil (confirmed h i)) refl)
+tally_stays (Closed j) h i q = same_tally (Closed j) h i refl (rw (append-nil (births h i), append-nil (all_puts h), append-nil (confirmed h i)) refl)
+tally_stays (Retired j) h i q = same_tally (Retired j) h i refl (rw (append-nil (births h i), append-nil (all_puts h), append-nil (confirmed h i)) refl)
+tally_stays (Abandon cause) h i q = same_tally (Abandon cause) h i refl (rw (append-nil (births h i), append-nil (all_puts h), append-nil (confirmed h i)) refl)
 tally_stays other h i q = absurd (cc)

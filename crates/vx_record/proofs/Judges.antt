@@ -29,6 +29,7 @@ use Rattle.vx_record.specs.Judges.{judge_at, parcels_given, HeldIsGiven, HeldIsA
 use Rattle.vx_record.proofs.Counts.{count-append, unless, unless-none, unless-some}
 use Rattle.vx_record.proofs.OnePlace.{conserved}
 use Rattle.vx_record.proofs.Changes.{NoneEmpty, none_empty, without-all, shrunk-none}
+use Rattle.vx_record.proofs.Vacant.{self}
 use Rattle.vx_record.proofs.Entries.{take_grows, spent_shrinks}
 use Rattle.vx_record.proofs.HeldCopies.{not_there}
 use Rattle.vx_record.proofs.Answers.{count-shrunk, answer_holds}
@@ -58,9 +59,6 @@ pub record HoldsGiven (h : Record) (i : ℕ) : Type 0 where
 -- one of the two
 abbrev pub Holding : Record → ℕ → Type 0
 Holding h i = HoldsDiscards h i ⊎ HoldsGiven h i
-
-self : (i : ℕ) → (i == i) ≡ true
-self i = eq-eqb i i refl
 
 -- an entry that leaves what it holds, its inputs and its discards leaves that too
 holds_on : (h : Record) (e : Entry) (i : ℕ) → unanswered (e ∷ h) i ≡ unanswered h i →

@@ -1,5 +1,5 @@
 -- What is done when it is leased stays done, so what is closed has no more work.
-use Rattle.std.proofs.Common.{◌≡◌, ℕ, Bool, true, false, List, [], ◌∷◌, ◌++◌, Option, Some, None, refl, sym, ap, subst, ◌∙◌, inl, inr}
+use Rattle.std.proofs.Common.{◌≡◌, ℕ, Bool, true, false, List, [], ◌∷◌, ◌++◌, Option, Some, None, refl, sym, ap, subst, ◌∙◌, arith, inl, inr}
 use Rattle.std.specs.Prelude.{◌==◌, ◌&&◌, ◌||◌, not, ◌⊎◌, nat_le, if◌then◌else◌}
 use Rattle.std.proofs.lemmas.Bool.{or_from, eqb-true, eq-eqb}
 use Rattle.vx_value.specs.Texts.{is_empty}
@@ -33,8 +33,8 @@ use Rattle.vx_record.proofs.OnePlace.{conserved}
 use Rattle.vx_record.proofs.Vacant.{Unfilled, creates, enters, unbuffered, is_empty_of, unentered, unfilled_on, bare_of, bare_unfilled}
 use Rattle.vx_record.proofs.Promises.{source_lease}
 use Rattle.vx_record.proofs.Turning.{turn_undry}
-use Rattle.vx_record.proofs.Bare.{retired_bare}
-use Rattle.vx_record.proofs.Senders.{reader, retired_sent}
+use Rattle.vx_record.proofs.Bare.{retired_bare, unstaged_unentered, source_unstaged}
+use Rattle.vx_record.proofs.Senders.{reader, since_retired, retired_sent}
 use Rattle.vx_record.proofs.SourceEnds.{source_done, done_source, source_on}
 use Rattle.vx_record.proofs.WorkerEnds.{worker_done, done_worker, worker_on, source_dry, unawaited}
 
@@ -183,30 +183,19 @@ closed_final (e ∷ h) i legal kept is = final_on h e i legal (closed_final h i 
 
 -- the tests of what is ready
 unreadable : (s d t k : Bool) → d ≡ true → (s && not d && t && k) ≡ false
-unreadable true true t k e = refl
-unreadable false true t k e = refl
-unreadable s false t k e = cc
+unreadable s d t k e = grind arith
 
 unclosing : (v c d : Bool) → c ≡ true → (v && not c && d) ≡ false
-unclosing true true d e = refl
-unclosing false true d e = refl
-unclosing v false d e = cc
+unclosing v c d e = grind arith
 
 no_batch : (n o w : Bool) → n ≡ true → (not n && o && w) ≡ false
-no_batch true o w e = refl
-no_batch false o w e = cc
+no_batch n o w e = grind arith
 
 none_to_take : (c b : Bool) → b ≡ true → (not c && not b) ≡ false
-none_to_take true b e = refl
-none_to_take false true e = refl
-none_to_take false false e = cc
+none_to_take c b e = grind arith
 
 unflowing : (s b e n : Bool) → b ≡ true → n ≡ true → (s && (not b || (e && b && not n))) ≡ false
-unflowing false b e n x y = refl
-unflowing true false e n x y = cc
-unflowing true true e false x y = cc
-unflowing true true true true x y = refl
-unflowing true true false true x y = refl
+unflowing s b e n x y = grind arith
 
 ready_by : (o : Option Component) (s t k : Bool) → ((elim o [ None ↦ false | Some c ↦ is_source c ]) ≡ true → s ≡ false) → ((elim o [ None ↦ false | Some c ↦ is_source c ]) ≡ false → (t ≡ false) × (k ≡ false)) →
     (elim o [ None ↦ false | Some c ↦ elim c.class [ Source ↦ s | Transform ↦ t | Sink ↦ k ] ]) ≡ false
@@ -309,32 +298,8 @@ retired_final (Retired j ∷ h) i legal kept is = go (j == i) refl is (retired_f
     go false here e rest = final_on h (Retired j) i legal (rest e)
 retired_final (e ∷ h) i legal kept is = final_on h e i legal (retired_final h i legal.1 kept is)
 
--- a source has no stage, so nothing enters it
-no_stage : (o : Option Component) → (elim o [ None ↦ false | Some c ↦ is_source c ]) ≡ true → ◌≡◌ {A = List Stage} (elim o [ None ↦ [] | Some c ↦ stages c ]) []
-no_stage None is = cc
-no_stage (Some c) is = go c is
-  where
-    go : (c : Component) → is_source c ≡ true → stages c ≡ []
-    go c is = by c.class is
-      where
-        by : (t : Class) → (elim t [ Source ↦ true | Transform ↦ false | Sink ↦ false ]) ≡ true → ◌≡◌ {A = List Stage} (elim t [ Source ↦ [] | Transform ↦ transform_stages | Sink ↦ sink_stages c.settings ]) []
-        by Source is = refl
-        by Transform is = cc
-        by Sink is = cc
-
-source_unentered : (h : Record) (e : Entry) (i : ℕ) → IsLegal (e ∷ h) → source_at h i ≡ true → enters i e ≡ false
-source_unentered h (Push j t s copies) i legal on = go (t == i) refl
-  where
-    go : (b : Bool) → (t == i) ≡ b → b ≡ false
-    go true here =
-        let same : t ≡ i = eqb-true t i here in
-        let is : source_at h t ≡ true = subst (λ (k : ℕ). source_at h k ≡ true) (sym same) on in
-        let no : None ≡ Some s = sym (ap (λ (all : List Stage). room_from 0 h t all) (no_stage (component_of h t) is)) ∙ legal.0.row.room in cc
-    go false here = refl
-source_unentered h e i legal on = refl
-
 -- nothing enters what is retired
-retired_unentered : (h : Record) (e : Entry) (i : ℕ) → IsLegal (e ∷ h) → is_retired h i ≡ true → enters i e ≡ false
+retired_unentered : (h : Record) (e : Entry) (i : ℕ) → IsLegal (e ∷ h) → is_retired (e ∷ h) i ≡ true → enters i e ≡ false
 retired_unentered h (Push j t s copies) i legal is = by (abandoned h) refl
   where
     by : (b : Bool) → abandoned h ≡ b → enters i (Push j t s copies) ≡ false
@@ -345,19 +310,14 @@ retired_unentered h (Push j t s copies) i legal is = by (abandoned h) refl
         done = (retired_final h i legal.1 kept is).done
 
         go : (b : Bool) → source_at h i ≡ b → enters i (Push j t s copies) ≡ false
-        go true on = source_unentered h (Push j t s copies) i legal on
+        go true on = unstaged_unentered h (Push j t s copies) i legal (source_unstaged h i on)
         go false off = unentered h (Push j t s copies) i (conserved (Push j t s copies ∷ h) legal) (λ k. unawaited h k i legal.1 (worker_done h i legal.1 off done).unnamed)
 retired_unentered h e i legal is = refl
 
 -- so it has nothing
 retired_unfilled : (h : Record) (i : ℕ) → IsLegal h → is_retired h i ≡ true → Unfilled h i
-retired_unfilled [] i legal is = cc
-retired_unfilled (Retired j ∷ h) i legal is = unfilled_on h (Retired j) i (conserved (Retired j ∷ h) legal) refl (go (j == i) refl is (retired_unfilled h i legal.1))
-  where
-    go : (b : Bool) → (j == i) ≡ b → (b || is_retired h i) ≡ true → (is_retired h i ≡ true → Unfilled h i) → Unfilled h i
-    go true here e rest = let same : j ≡ i = eqb-true j i here in subst (λ (k : ℕ). Unfilled h k) same (bare_unfilled h j (retired_bare h j legal.1 legal.0.row))
-    go false here e rest = rest e
-retired_unfilled (e ∷ h) i legal is = unfilled_on h e i (conserved (e ∷ h) legal) (retired_unentered h e i legal is) (retired_unfilled h i legal.1 is)
+retired_unfilled = since_retired Unfilled (λ h i legal row. bare_unfilled h i (retired_bare h i legal row))
+    (λ h e i legal is. unfilled_on h e i (conserved (e ∷ h) legal) (retired_unentered h e i legal is))
 
 pub stays_bare : StaysBare
 stays_bare h i legal is = bare_of h i (retired_sent h i legal is) (retired_unfilled h i legal is)

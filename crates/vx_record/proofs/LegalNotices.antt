@@ -49,7 +49,7 @@ no_early_notice h legal b c bc v = accounted_late h (accounted h legal) b c bc v
 pub notice_at_once : NoticeAtOnce
 notice_at_once later earlier b status legal = let row = (legal_before later (Notice b status ∷ earlier) legal).0.row in (row.due, row.folded)
 
-noticed_times : (h : Record) (b : ℕ) → is_noticed h b ≡ true → 0 < times_noticed h b
+pub noticed_times : (h : Record) (b : ℕ) → is_noticed h b ≡ true → 0 < times_noticed h b
 noticed_times [] b e = cc
 noticed_times (Notice b' status ∷ h) b e = go (b' == b) (λ d. noticed_times h b d) e
   where

@@ -24,6 +24,7 @@ pub mod Ceasing
 pub mod Answerers
 pub mod Attempted
 pub mod FirstPort
+pub mod Done
 pub mod Promises
 pub mod Alike
 pub mod Untried

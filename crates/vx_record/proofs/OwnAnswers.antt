@@ -1,71 +1,47 @@
 -- What a transform discarded last, and what waits for its answer, is the task's own.
-use Rattle.std.proofs.Common.{◌≡◌, ℕ, Bool, true, false, [], ◌∷◌, ◌++◌, refl}
-use Rattle.std.specs.Prelude.{◌==◌, if◌then◌else◌}
+use Rattle.std.proofs.Common.{◌≡◌, Bool, true, false, List, [], ◌∷◌, ◌++◌, refl}
+use Rattle.std.specs.Prelude.{not, ◌&&◌, ◌||◌, ◌==◌, if◌then◌else◌}
 use Rattle.vx_condition.specs.Steps.{comes, ticks}
-use Rattle.vx_record.specs.declared.entry.Entry.{Entry}
 use Rattle.vx_record.specs.declared.entry.Entry.TheVariants.{Take, Tick, Answer}
-use Rattle.vx_record.specs.Records.{Record}
 use Rattle.vx_record.specs.Turns.{lease_now}
 use Rattle.vx_record.specs.Parcels.{parcel_event}
-use Rattle.vx_record.specs.Inputs.{Input, unanswered, has_tick, ticks_wait}
+use Rattle.vx_record.specs.Inputs.{Input, unanswered, is_tick, has_tick, ticks_wait}
 use Rattle.vx_record.specs.Owing.{last_discarded, took_since}
-use Rattle.vx_record.specs.Tasks.{is_of, mine, IsOwn}
-use Rattle.vx_record.proofs.Mine.{owned}
+use Rattle.vx_record.specs.Tasks.{IsOwn}
+use Rattle.vx_record.proofs.Mine.{EachActs, acts, passes, sets, owned}
 
-discarded_apart : (h : Record) (e : Entry) (i : ℕ) → is_of i e ≡ false → last_discarded (e ∷ h) i ≡ last_discarded h i
-discarded_apart h (Answer j outputs discarded kept) i is = rw is refl
-discarded_apart h e i is = refl
-
-discarded_alike : (h : Record) (e : Entry) (i : ℕ) → last_discarded h i ≡ last_discarded (mine h i) i → last_discarded (e ∷ h) i ≡ last_discarded (e ∷ mine h i) i
-discarded_alike h (Answer j outputs discarded kept) i same = rw same refl
-discarded_alike h e i same = same
+discarded_acts : EachActs last_discarded
+discarded_acts (Answer j outputs discarded kept) i = sets discarded (λ h. refl)
+discarded_acts e i = passes (λ h. refl)
 
 pub discarded_own : IsOwn last_discarded
-discarded_own = owned last_discarded discarded_apart discarded_alike
+discarded_own = owned discarded_acts
 
-took_apart : (h : Record) (e : Entry) (i : ℕ) → is_of i e ≡ false → took_since (e ∷ h) i ≡ took_since h i
-took_apart h (Take j stage copies) i is = rw is refl
-took_apart h (Answer j outputs discarded kept) i is = rw is refl
-took_apart h e i is = refl
-
-took_alike : (h : Record) (e : Entry) (i : ℕ) → took_since h i ≡ took_since (mine h i) i → took_since (e ∷ h) i ≡ took_since (e ∷ mine h i) i
-took_alike h (Take j stage copies) i same = rw same refl
-took_alike h (Answer j outputs discarded kept) i same = rw same refl
-took_alike h e i same = same
+took_acts : EachActs took_since
+took_acts (Take j stage copies) i = acts (λ own took. own || took) (λ took. refl) (λ h. refl)
+took_acts (Answer j outputs discarded kept) i = acts (λ own took. not own && took) (λ took. refl) (λ h. refl)
+took_acts e i = passes (λ h. refl)
 
 pub took_own : IsOwn took_since
-took_own = owned took_since took_apart took_alike
+took_own = owned took_acts
 
-ticks_apart : (h : Record) (e : Entry) (i : ℕ) → is_of i e ≡ false → ticks_wait (e ∷ h) i ≡ ticks_wait h i
-ticks_apart h (Take j stage copies) i is = rw is refl
-ticks_apart h (Tick j now) i is = rw is refl
-ticks_apart h (Answer j outputs discarded kept) i is = rw is refl
-ticks_apart h e i is = refl
+-- one more input may be a tick
+tick_more : (b : Bool) (x : Input) (rest : List Input) → has_tick ((if b then x ∷ [] else []) ++ rest) ≡ ((b && is_tick x.step) || has_tick rest)
+tick_more true x rest = refl
+tick_more false x rest = refl
 
-ticks_alike : (h : Record) (e : Entry) (i : ℕ) → ticks_wait h i ≡ ticks_wait (mine h i) i → ticks_wait (e ∷ h) i ≡ ticks_wait (e ∷ mine h i) i
-ticks_alike h (Take j stage copies) i same = go (j == i)
-  where
-    input : Record → Input
-    input r = record { step = comes (parcel_event r copies) (lease_now r i); copies = copies }
+-- and no input is none
+tick_gone : (b : Bool) (given : List Input) → has_tick (if b then [] else given) ≡ (if b then false else has_tick given)
+tick_gone true given = refl
+tick_gone false given = refl
 
-    go : (b : Bool) → has_tick ((if b then input h ∷ [] else []) ++ unanswered h i)
-        ≡ has_tick ((if b then input (mine h i) ∷ [] else []) ++ unanswered (mine h i) i)
-    go true = same
-    go false = same
-ticks_alike h (Tick j now) i same = go (j == i)
-  where
-    input : Input
-    input = record { step = ticks now; copies = [] }
-
-    go : (b : Bool) → has_tick ((if b then input ∷ [] else []) ++ unanswered h i) ≡ has_tick ((if b then input ∷ [] else []) ++ unanswered (mine h i) i)
-    go true = refl
-    go false = same
-ticks_alike h (Answer j outputs discarded kept) i same = go (j == i)
-  where
-    go : (b : Bool) → has_tick (if b then [] else unanswered h i) ≡ has_tick (if b then [] else unanswered (mine h i) i)
-    go true = refl
-    go false = same
-ticks_alike h e i same = same
+ticks_acts : EachActs ticks_wait
+ticks_acts (Take j stage copies) i =
+    acts (λ own waits. (own && false) || waits) (λ waits. refl)
+    (λ h. tick_more (j == i) (record { step = comes (parcel_event h copies) (lease_now h i); copies = copies }) (unanswered h i))
+ticks_acts (Tick j now) i = acts (λ own waits. (own && true) || waits) (λ waits. refl) (λ h. tick_more (j == i) (record { step = ticks now; copies = [] }) (unanswered h i))
+ticks_acts (Answer j outputs discarded kept) i = sets false (λ h. tick_gone (j == i) (unanswered h i))
+ticks_acts e i = passes (λ h. refl)
 
 pub ticks_own : IsOwn ticks_wait
-ticks_own = owned ticks_wait ticks_apart ticks_alike
+ticks_own = owned ticks_acts

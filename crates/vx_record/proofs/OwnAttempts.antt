@@ -1,76 +1,53 @@
 -- When a sink took its parcels, and how often and how it attempted them, is the task's own.
-use Rattle.std.proofs.Common.{◌≡◌, ℕ, false, ◌∷◌, refl, arith}
-use Rattle.vx_record.specs.declared.entry.Entry.{Entry}
+use Rattle.std.proofs.Common.{ℕ, ◌+◌, Some, refl, arith}
+use Rattle.std.specs.Prelude.{◌&&◌, if◌then◌else◌}
 use Rattle.vx_record.specs.declared.entry.Entry.TheVariants.{Take, Attempt}
-use Rattle.vx_record.specs.Records.{Record}
-use Rattle.vx_record.specs.SinkBatches.{taken_at, attempts_with, failures_with, failed_at}
+use Rattle.vx_record.specs.Copies.{contains}
+use Rattle.vx_record.specs.SinkBatches.{is_failed, taken_at, attempts_with, failures_with, failed_at}
 use Rattle.vx_record.specs.Spending.{last_attempted, last_reply}
-use Rattle.vx_record.specs.Tasks.{is_of, mine, IsOwn}
-use Rattle.vx_record.proofs.Mine.{owned}
+use Rattle.vx_record.specs.Tasks.{IsOwn}
+use Rattle.vx_record.proofs.Mine.{EachActs, acts, passes, sets, owned}
 use Rattle.vx_record.proofs.OwnTurns.{moment_own}
 
-taken_apart : (c : ℕ) (h : Record) (e : Entry) (i : ℕ) → is_of i e ≡ false → taken_at (e ∷ h) i c ≡ taken_at h i c
-taken_apart c h (Take j stage copies) i is = rw is refl
-taken_apart c h e i is = refl
-
-taken_alike : (c : ℕ) (h : Record) (e : Entry) (i : ℕ) → taken_at h i c ≡ taken_at (mine h i) i c → taken_at (e ∷ h) i c ≡ taken_at (e ∷ mine h i) i c
-taken_alike c h (Take j stage copies) i same = rw (moment_own h i, same) refl
-taken_alike c h e i same = same
+taken_acts : (c : ℕ) → EachActs (λ h i. taken_at h i c)
+taken_acts c (Take j stage copies) i = record { apart = λ off h. rw off refl; alike = λ h same. rw (moment_own h i, same) refl }
+taken_acts c e i = passes (λ h. refl)
 
 pub taken_own : (c : ℕ) → IsOwn (λ h i. taken_at h i c)
-taken_own c = owned (λ h i. taken_at h i c) (taken_apart c) (taken_alike c)
+taken_own c = owned (taken_acts c)
 
-attempts_apart : (c : ℕ) (h : Record) (e : Entry) (i : ℕ) → is_of i e ≡ false → attempts_with (e ∷ h) i c ≡ attempts_with h i c
-attempts_apart c h (Attempt j copies bytes reply) i is = rw is (omega arith)
-attempts_apart c h e i is = refl
-
-attempts_alike : (c : ℕ) (h : Record) (e : Entry) (i : ℕ) → attempts_with h i c ≡ attempts_with (mine h i) i c → attempts_with (e ∷ h) i c ≡ attempts_with (e ∷ mine h i) i c
-attempts_alike c h (Attempt j copies bytes reply) i same = rw same refl
-attempts_alike c h e i same = same
+attempts_acts : (c : ℕ) → EachActs (λ h i. attempts_with h i c)
+attempts_acts c (Attempt j copies bytes reply) i = acts (λ own n. n + (if own && contains copies c then 1 else 0)) (λ n. omega arith) (λ h. refl)
+attempts_acts c e i = passes (λ h. refl)
 
 pub attempts_own : (c : ℕ) → IsOwn (λ h i. attempts_with h i c)
-attempts_own c = owned (λ h i. attempts_with h i c) (attempts_apart c) (attempts_alike c)
+attempts_own c = owned (attempts_acts c)
 
-failures_apart : (c : ℕ) (h : Record) (e : Entry) (i : ℕ) → is_of i e ≡ false → failures_with (e ∷ h) i c ≡ failures_with h i c
-failures_apart c h (Attempt j copies bytes reply) i is = rw is (omega arith)
-failures_apart c h e i is = refl
-
-failures_alike : (c : ℕ) (h : Record) (e : Entry) (i : ℕ) → failures_with h i c ≡ failures_with (mine h i) i c → failures_with (e ∷ h) i c ≡ failures_with (e ∷ mine h i) i c
-failures_alike c h (Attempt j copies bytes reply) i same = rw same refl
-failures_alike c h e i same = same
+failures_acts : (c : ℕ) → EachActs (λ h i. failures_with h i c)
+failures_acts c (Attempt j copies bytes reply) i =
+    acts (λ own n. n + (if own && contains copies c && is_failed reply then 1 else 0)) (λ n. omega arith) (λ h. refl)
+failures_acts c e i = passes (λ h. refl)
 
 pub failures_own : (c : ℕ) → IsOwn (λ h i. failures_with h i c)
-failures_own c = owned (λ h i. failures_with h i c) (failures_apart c) (failures_alike c)
+failures_own c = owned (failures_acts c)
 
-failed_apart : (c : ℕ) (h : Record) (e : Entry) (i : ℕ) → is_of i e ≡ false → failed_at (e ∷ h) i c ≡ failed_at h i c
-failed_apart c h (Attempt j copies bytes reply) i is = rw is refl
-failed_apart c h e i is = refl
-
-failed_alike : (c : ℕ) (h : Record) (e : Entry) (i : ℕ) → failed_at h i c ≡ failed_at (mine h i) i c → failed_at (e ∷ h) i c ≡ failed_at (e ∷ mine h i) i c
-failed_alike c h (Attempt j copies bytes reply) i same = rw (moment_own h i, same) refl
-failed_alike c h e i same = same
+failed_acts : (c : ℕ) → EachActs (λ h i. failed_at h i c)
+failed_acts c (Attempt j copies bytes reply) i = record { apart = λ off h. rw off refl; alike = λ h same. rw (moment_own h i, same) refl }
+failed_acts c e i = passes (λ h. refl)
 
 pub failed_own : (c : ℕ) → IsOwn (λ h i. failed_at h i c)
-failed_own c = owned (λ h i. failed_at h i c) (failed_apart c) (failed_alike c)
+failed_own c = owned (failed_acts c)
 
-attempted_apart : (h : Record) (e : Entry) (i : ℕ) → is_of i e ≡ false → last_attempted (e ∷ h) i ≡ last_attempted h i
-attempted_apart h (Attempt j copies bytes reply) i is = rw is refl
-attempted_apart h e i is = refl
-
-attempted_alike : (h : Record) (e : Entry) (i : ℕ) → last_attempted h i ≡ last_attempted (mine h i) i → last_attempted (e ∷ h) i ≡ last_attempted (e ∷ mine h i) i
-attempted_alike h (Attempt j copies bytes reply) i same = rw same refl
-attempted_alike h e i same = same
+attempted_acts : EachActs last_attempted
+attempted_acts (Attempt j copies bytes reply) i = sets copies (λ h. refl)
+attempted_acts e i = passes (λ h. refl)
 
 pub attempted_own : IsOwn last_attempted
-attempted_own = owned last_attempted attempted_apart attempted_alike
+attempted_own = owned attempted_acts
 
-reply_apart : (h : Record) (e : Entry) (i : ℕ) → is_of i e ≡ false → last_reply (e ∷ h) i ≡ last_reply h i
-reply_apart h (Attempt j copies bytes reply) i is = rw is refl
-reply_apart h e i is = refl
-
-reply_alike : (h : Record) (e : Entry) (i : ℕ) → last_reply h i ≡ last_reply (mine h i) i → last_reply (e ∷ h) i ≡ last_reply (e ∷ mine h i) i
-reply_alike h (Attempt j copies bytes reply) i same = rw same refl
-reply_alike h e i same = same
+reply_acts : EachActs last_reply
+reply_acts (Attempt j copies bytes reply) i = sets (Some reply) (λ h. refl)
+reply_acts e i = passes (λ h. refl)
 
 pub reply_own : IsOwn last_reply
-reply_own = owned last_reply reply_apart reply_alike
+reply_own = owned reply_acts

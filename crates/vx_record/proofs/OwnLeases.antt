@@ -9,30 +9,26 @@ use Rattle.vx_record.specs.Turns.{at_lease, since_lease, is_turn_of, is_attempt_
 use Rattle.vx_record.specs.Tasks.{is_of, mine, IsOwn}
 use Rattle.vx_record.specs.Makers.{Spares}
 use Rattle.vx_record.specs.TaskLaws.{LeaseStays}
-use Rattle.vx_record.proofs.Mine.{owned}
+use Rattle.vx_record.proofs.Mine.{EachActs, IsIdle, owned}
 use Rattle.vx_record.proofs.Adding.{carry}
 
 -- whether an entry of a kind that others don't make came since the Lease
-pub since_own : (test : ℕ → Entry → Bool) → ((e : Entry) (i : ℕ) → is_of i e ≡ false → test i e ≡ false) → IsOwn (λ h i. list_any (test i) (since_lease h i))
-since_own test none = owned (λ h i. list_any (test i) (since_lease h i)) apart alike
+pub since_own : (test : ℕ → Entry → Bool) → IsIdle false test → IsOwn (λ h i. list_any (test i) (since_lease h i))
+since_own test none = owned each
   where
-    apart : (h : Record) (e : Entry) (i : ℕ) → is_of i e ≡ false → list_any (test i) (since_lease (e ∷ h) i) ≡ list_any (test i) (since_lease h i)
-    apart h (Lease j worker now polls) i is =
-        ap (λ (b : Bool). list_any (test i) (if b then [] else Lease j worker now polls ∷ since_lease h i)) is
-        ∙ ap (λ (b : Bool). b || list_any (test i) (since_lease h i)) (none (Lease j worker now polls) i is)
-    apart h e i is = ap (λ (b : Bool). b || list_any (test i) (since_lease h i)) (none e i is)
+    go : (b : Bool) (e : Entry) (h : Record) (i : ℕ) → list_any (test i) (since_lease h i) ≡ list_any (test i) (since_lease (mine h i) i) →
+        list_any (test i) (if b then [] else e ∷ since_lease h i) ≡ list_any (test i) (if b then [] else e ∷ since_lease (mine h i) i)
+    go true e h i same = refl
+    go false e h i same = ap (λ (b : Bool). test i e || b) same
 
-    alike : (h : Record) (e : Entry) (i : ℕ) → list_any (test i) (since_lease h i) ≡ list_any (test i) (since_lease (mine h i) i) →
-        list_any (test i) (since_lease (e ∷ h) i) ≡ list_any (test i) (since_lease (e ∷ mine h i) i)
-    alike h (Lease j worker now polls) i same = go (j == i)
-      where
-        go : (b : Bool) → list_any (test i) (if b then [] else Lease j worker now polls ∷ since_lease h i)
-            ≡ list_any (test i) (if b then [] else Lease j worker now polls ∷ since_lease (mine h i) i)
-        go true = refl
-        go false = ap (λ (b : Bool). test i (Lease j worker now polls) || b) same
-    alike h e i same = ap (λ (b : Bool). test i e || b) same
+    each : EachActs (λ h i. list_any (test i) (since_lease h i))
+    each (Lease j worker now polls) i = record {
+      apart = λ off h. rw (off, none (Lease j worker now polls) i off) refl;
+      alike = λ h. go (j == i) (Lease j worker now polls) h i;
+    }
+    each e i = record { apart = λ off h. rw (none e i off) refl; alike = λ h same. go false e h i same }
 
-no_turn : (e : Entry) (i : ℕ) → is_of i e ≡ false → is_turn_of i e ≡ false
+no_turn : IsIdle false is_turn_of
 no_turn (Read j stream took) i is = is
 no_turn (Idle j failed) i is = is
 no_turn (SourceLost j after failed) i is = is
@@ -41,14 +37,14 @@ no_turn e i is = refl
 pub turned_own : IsOwn (λ h i. list_any (is_turn_of i) (since_lease h i))
 turned_own = since_own is_turn_of no_turn
 
-no_attempt : (e : Entry) (i : ℕ) → is_of i e ≡ false → is_attempt_of i e ≡ false
+no_attempt : IsIdle false is_attempt_of
 no_attempt (Attempt j copies bytes reply) i is = is
 no_attempt e i is = refl
 
 pub tried_own : IsOwn (λ h i. list_any (is_attempt_of i) (since_lease h i))
 tried_own = since_own is_attempt_of no_attempt
 
-no_confirm : (e : Entry) (i : ℕ) → is_of i e ≡ false → is_confirm_of i e ≡ false
+no_confirm : IsIdle false is_confirm_of
 no_confirm (Confirm j positions made) i is = is
 no_confirm e i is = refl
 

@@ -1,68 +1,45 @@
 -- Being out, and what comes with it, is the task's own.
-use Rattle.std.proofs.Common.{◌≡◌, ℕ, false, ◌∷◌, refl}
-use Rattle.vx_record.specs.declared.entry.Entry.{Entry}
+use Rattle.std.proofs.Common.{true, false, Some, None, refl}
+use Rattle.std.specs.Prelude.{◌||◌}
 use Rattle.vx_record.specs.declared.entry.Entry.TheVariants.{Lease, Home, Closed, Retired}
-use Rattle.vx_record.specs.Records.{Record}
 use Rattle.vx_record.specs.Turns.{is_out, lease_now}
 use Rattle.vx_record.specs.Installs.{is_closed, is_retired}
-use Rattle.vx_record.specs.Tasks.{is_of, mine, IsOwn, out_to}
-use Rattle.vx_record.proofs.Mine.{owned}
+use Rattle.vx_record.specs.Tasks.{IsOwn, out_to}
+use Rattle.vx_record.proofs.Mine.{EachActs, acts, passes, sets, owned}
 
-pub worker_apart : (h : Record) (e : Entry) (i : ℕ) → is_of i e ≡ false → out_to (e ∷ h) i ≡ out_to h i
-worker_apart h (Lease j worker now polls) i is = rw is refl
-worker_apart h (Home j) i is = rw is refl
-worker_apart h e i is = refl
-
-worker_alike : (h : Record) (e : Entry) (i : ℕ) → out_to h i ≡ out_to (mine h i) i → out_to (e ∷ h) i ≡ out_to (e ∷ mine h i) i
-worker_alike h (Lease j worker now polls) i same = rw same refl
-worker_alike h (Home j) i same = rw same refl
-worker_alike h e i same = same
+pub worker_acts : EachActs out_to
+worker_acts (Lease j worker now polls) i = sets (Some worker) (λ h. refl)
+worker_acts (Home j) i = sets None (λ h. refl)
+worker_acts e i = passes (λ h. refl)
 
 pub worker_own : IsOwn out_to
-worker_own = owned out_to worker_apart worker_alike
+worker_own = owned worker_acts
 
-out_apart : (h : Record) (e : Entry) (i : ℕ) → is_of i e ≡ false → is_out (e ∷ h) i ≡ is_out h i
-out_apart h (Lease j worker now polls) i is = rw is refl
-out_apart h (Home j) i is = rw is refl
-out_apart h e i is = refl
-
-out_alike : (h : Record) (e : Entry) (i : ℕ) → is_out h i ≡ is_out (mine h i) i → is_out (e ∷ h) i ≡ is_out (e ∷ mine h i) i
-out_alike h (Lease j worker now polls) i same = rw same refl
-out_alike h (Home j) i same = rw same refl
-out_alike h e i same = same
+out_acts : EachActs is_out
+out_acts (Lease j worker now polls) i = sets true (λ h. refl)
+out_acts (Home j) i = sets false (λ h. refl)
+out_acts e i = passes (λ h. refl)
 
 pub out_own : IsOwn is_out
-out_own = owned is_out out_apart out_alike
+out_own = owned out_acts
 
-moment_apart : (h : Record) (e : Entry) (i : ℕ) → is_of i e ≡ false → lease_now (e ∷ h) i ≡ lease_now h i
-moment_apart h (Lease j worker now polls) i is = rw is refl
-moment_apart h e i is = refl
-
-moment_alike : (h : Record) (e : Entry) (i : ℕ) → lease_now h i ≡ lease_now (mine h i) i → lease_now (e ∷ h) i ≡ lease_now (e ∷ mine h i) i
-moment_alike h (Lease j worker now polls) i same = rw same refl
-moment_alike h e i same = same
+moment_acts : EachActs lease_now
+moment_acts (Lease j worker now polls) i = sets now (λ h. refl)
+moment_acts e i = passes (λ h. refl)
 
 pub moment_own : IsOwn lease_now
-moment_own = owned lease_now moment_apart moment_alike
+moment_own = owned moment_acts
 
-closed_apart : (h : Record) (e : Entry) (i : ℕ) → is_of i e ≡ false → is_closed (e ∷ h) i ≡ is_closed h i
-closed_apart h (Closed j) i is = rw is refl
-closed_apart h e i is = refl
-
-closed_alike : (h : Record) (e : Entry) (i : ℕ) → is_closed h i ≡ is_closed (mine h i) i → is_closed (e ∷ h) i ≡ is_closed (e ∷ mine h i) i
-closed_alike h (Closed j) i same = rw same refl
-closed_alike h e i same = same
+closed_acts : EachActs is_closed
+closed_acts (Closed j) i = acts (λ own closed. own || closed) (λ closed. refl) (λ h. refl)
+closed_acts e i = passes (λ h. refl)
 
 pub closed_own : IsOwn is_closed
-closed_own = owned is_closed closed_apart closed_alike
+closed_own = owned closed_acts
 
-retired_apart : (h : Record) (e : Entry) (i : ℕ) → is_of i e ≡ false → is_retired (e ∷ h) i ≡ is_retired h i
-retired_apart h (Retired j) i is = rw is refl
-retired_apart h e i is = refl
-
-retired_alike : (h : Record) (e : Entry) (i : ℕ) → is_retired h i ≡ is_retired (mine h i) i → is_retired (e ∷ h) i ≡ is_retired (e ∷ mine h i) i
-retired_alike h (Retired j) i same = rw same refl
-retired_alike h e i same = same
+retired_acts : EachActs is_retired
+retired_acts (Retired j) i = acts (λ own retired. own || retired) (λ retired. refl) (λ h. refl)
+retired_acts e i = passes (λ h. refl)
 
 pub retired_own : IsOwn is_retired
-retired_own = owned is_retired retired_apart retired_alike
+retired_own = owned retired_acts

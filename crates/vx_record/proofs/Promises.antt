@@ -2,13 +2,15 @@
 use Rattle.std.proofs.Common.{◌≡◌, ℕ, ◌+◌, ◌<◌, ◌≤◌, Bool, true, false, List, [], ◌∷◌, Option, Some, None, refl, sym, ap, subst, ◌∙◌, arith, inl, inr}
 use Rattle.std.specs.Prelude.{◌⊎◌, ◌==◌, ◌&&◌, ◌||◌, not, nat_le, is_some, IsSome, if◌then◌else◌}
 use Rattle.std.specs.List.{list_any}
+use Rattle.std.proofs.lemmas.Bool.{and_parts, or_parts, or_cases, not-true}
 use Rattle.std.proofs.lemmas.Bool.Decides.{nat_tests}
 use Rattle.vx_status.specs.declared.outcome.Outcome.TheVariants.{Delivered, Attempts, Refusal, Abandoned, NoConsumer, Filtered, NewestDropped}
 use Rattle.vx_plan.specs.declared.class.Class.TheVariants.{Source, Transform, Sink}
 use Rattle.vx_plan.specs.declared.component.Component.{Component}
 use Rattle.vx_plan.specs.Components.{component_named, is_source}
 use Rattle.vx_record.specs.Records.{Record}
-use Rattle.vx_record.specs.declared.entry.Entry.TheVariants.{Install, Lease, Home, Read, Idle, SourceLost, Answer, Attempt, Spent}
+use Rattle.vx_record.specs.declared.entry.Entry.{Entry}
+use Rattle.vx_record.specs.declared.entry.Entry.TheVariants.{Install, Lease, Home, SourceLost, Answer, Attempt, Spent}
 use Rattle.vx_record.specs.Copies.{count, contains, joined, spends, all_of, times_spent}
 use Rattle.vx_record.specs.Lists.{held, outputs}
 use Rattle.vx_record.specs.Turns.{is_out, at_lease, since_lease, lease_now, is_turn_of}
@@ -31,32 +33,28 @@ use Rattle.vx_record.specs.Promises.{TurnUnlost, ClosedTakesNoMore, LeasedRuns, 
 use Rattle.vx_record.proofs.Counts.{count-append}
 use Rattle.vx_record.proofs.OnePlace.{conserved}
 use Rattle.vx_record.proofs.Answers.{answer_holds}
+use Rattle.vx_record.proofs.Done.{source_tests}
 use Rattle.vx_record.proofs.Answerers.{answerer}
-use Rattle.vx_record.proofs.Attempted.{attempted_held, held_stays, unreleased}
+use Rattle.vx_record.proofs.Attempted.{attempted_held, held_on}
 use Rattle.vx_record.proofs.Ceasing.{has_cause, more_on, unmarked}
 use Rattle.vx_record.proofs.FirstPort.{open_routes, first_readers, source_on_first}
 
 pub or_left : (a b : Bool) → (a || b) ≡ false → a ≡ false
-or_left true b e = cc
-or_left false b e = refl
+or_left a b e = (or_parts a b e).0
 
 pub or_right : (a b : Bool) → (a || b) ≡ false → b ≡ false
-or_right true b e = cc
-or_right false b e = e
+or_right a b e = (or_parts a b e).1
 
 pub and_left : (a b : Bool) → (a && b) ≡ true → a ≡ true
-and_left true b e = refl
-and_left false b e = cc
+and_left a b e = (and_parts a b e).0
 
 pub and_right : (a b : Bool) → (a && b) ≡ true → b ≡ true
-and_right true b e = e
-and_right false b e = cc
-
-pub either : (a b : Bool) → (a || b) ≡ true → (a ≡ true) ⊎ (b ≡ true)
-either true b e = inl refl
-either false b e = inr e
+and_right a b e = (and_parts a b e).1
 
 -- LEASES
+pub was_out : (b c : Bool) → (if b then false else c) ≡ true → c ≡ true
+was_out b c e = grind arith
+
 -- an instance that is out is wired as when it was leased
 wired_lease : (h : Record) (i : ℕ) → IsLegal h → is_out h i ≡ true → wiring (at_lease h i) i ≡ wiring h i
 wired_lease [] i legal out = cc
@@ -110,43 +108,39 @@ some_lost (SourceLost j at failed ∷ h) i on = go (j == i) on (some_lost h i)
     go false on rest = rest on
 some_lost (e ∷ h) i on = some_lost h i on
 
--- nothing was lost since a lease behind which no turn stands
-lost_since : (h : Record) (i : ℕ) → list_any (is_turn_of i) (since_lease h i) ≡ false → lost_at h i ≡ lost_at (at_lease h i) i
-lost_since [] i none = refl
-lost_since (Lease j worker now polls ∷ h) i none = go (j == i) none (lost_since h i)
+-- what turns alone change stays since a lease behind which none stands
+pub unturned : {X : Type 0} (f : Record → ℕ → X) → ((h : Record) (e : Entry) (i : ℕ) → is_turn_of i e ≡ false → f (e ∷ h) i ≡ f h i) →
+    (h : Record) (i : ℕ) → list_any (is_turn_of i) (since_lease h i) ≡ false → f h i ≡ f (at_lease h i) i
+unturned f same [] i none = refl
+unturned f same (Lease j worker now polls ∷ h) i none = same h (Lease j worker now polls) i refl ∙ go (j == i) none (unturned f same h i)
   where
-    go : (b : Bool) → list_any (is_turn_of i) (if b then [] else Lease j worker now polls ∷ since_lease h i) ≡ false → (list_any (is_turn_of i) (since_lease h i) ≡ false → lost_at h i ≡ lost_at (at_lease h i) i) →
-        lost_at h i ≡ lost_at (if b then h else at_lease h i) i
+    go : (b : Bool) → list_any (is_turn_of i) (if b then [] else Lease j worker now polls ∷ since_lease h i) ≡ false →
+        (list_any (is_turn_of i) (since_lease h i) ≡ false → f h i ≡ f (at_lease h i) i) → f h i ≡ f (if b then h else at_lease h i) i
     go true none rest = refl
     go false none rest = rest none
-lost_since (Read j stream took ∷ h) i none = lost_since h i (or_right (j == i) _ none)
-lost_since (Idle j failed ∷ h) i none = lost_since h i (or_right (j == i) _ none)
-lost_since (SourceLost j at failed ∷ h) i none =
-    ap (λ (b : Bool). if b then Some at else lost_at h i) (or_left (j == i) _ none) ∙ lost_since h i (or_right (j == i) _ none)
-lost_since (e ∷ h) i none = lost_since h i none
+unturned f same (e ∷ h) i none =
+    let parts = or_parts (is_turn_of i e) (list_any (is_turn_of i) (since_lease h i)) none in same h e i parts.0 ∙ unturned f same h i parts.1
+
+-- so it isn't lost after more bytes
+loss_same : (h : Record) (e : Entry) (i : ℕ) → is_turn_of i e ≡ false → lost_at (e ∷ h) i ≡ lost_at h i
+loss_same h (SourceLost j at failed) i none = rw none refl
+loss_same h e i none = refl
 
 -- a source that could be read wasn't lost
-not_of : (a : Bool) → not a ≡ true → a ≡ false
-not_of true e = cc
-not_of false e = refl
-
 pub undry_unlost : (s e l d : Bool) → s ≡ true → (s && (e || l || d)) ≡ false → l ≡ false
-undry_unlost false e l d on off = cc
-undry_unlost true true l d on off = cc
-undry_unlost true false true d on off = cc
-undry_unlost true false false d on off = refl
+undry_unlost s e l d on off = grind arith
 
 -- a source that could be read when it was leased wasn't dry then
 pub undry_lease : (h : Record) (i : ℕ) → MayTurn h i → is_dry (at_lease h i) i ≡ false
 undry_lease h i row =
     let k = at_lease h i in
     let sent_dry = and_left (is_sent k i && not (is_dry k i)) (nat_le (reading_moment k i) (lease_now h i)) (and_left (is_sent k i && not (is_dry k i) && nat_le (reading_moment k i) (lease_now h i)) (is_heir k i) row.readable) in
-    not_of (is_dry k i) (and_right (is_sent k i) (not (is_dry k i)) sent_dry)
+    not-true (is_dry k i) (and_right (is_sent k i) (not (is_dry k i)) sent_dry)
 
 pub turn_unlost : TurnUnlost
 turn_unlost h i legal row =
     let k = at_lease h i in
-    lost_since h i row.once
+    unturned lost_at loss_same h i row.once
     ∙ none_lost k i (undry_unlost (source_at k i) (all_ended k i) (is_lost k i) (drains k i && not (is_out_from_before k i)) (source_lease h i legal row.out row.source) (undry_lease h i row))
 
 -- CLOSURES
@@ -162,32 +156,25 @@ more_since (e ∷ h) i more = more_on h i e (more_since h i more)
 
 -- a dry source takes no more
 dry_more : (h : Record) (i : ℕ) → IsLegal h → is_dry h i ≡ true → TakesNoMore h i
-dry_more h i legal dry = by_cause (either (all_ended h i || is_lost h i) (drains h i && not (is_out_from_before h i)) (and_right (source_at h i) _ dry))
+dry_more h i legal dry = by_cause (or_cases (all_ended h i || is_lost h i) (drains h i && not (is_out_from_before h i)) (and_right (source_at h i) _ dry))
   where
     drained : (is_marked h i ≡ true) ⊎ ((source_at h i && false) ≡ true) → TakesNoMore h i
     drained (inl marked) = let no : true ≡ false = sym marked ∙ unmarked h i legal in cc
     drained (inr stop) = let no : false ≡ true = and_right (source_at h i) false stop in cc
 
     by_cause : ((all_ended h i || is_lost h i) ≡ true) ⊎ ((drains h i && not (is_out_from_before h i)) ≡ true) → TakesNoMore h i
-    by_cause (inl over) = by_end (either (all_ended h i) (is_lost h i) over)
+    by_cause (inl over) = by_end (or_cases (all_ended h i) (is_lost h i) over)
       where
         by_end : (all_ended h i ≡ true) ⊎ (is_lost h i ≡ true) → TakesNoMore h i
         by_end (inl ended) = inl ended
         by_end (inr lost) = inr (inl (some_lost h i lost))
-    by_cause (inr drains_now) = drained (either (is_marked h i) (source_at h i && false) (and_left (drains h i) (not (is_out_from_before h i)) drains_now))
-
-source_dry : (h : Record) (i : ℕ) → source_at h i ≡ true → is_done h i ≡ true → is_dry h i ≡ true
-source_dry h i source done = and_left (is_dry h i) (not (owes h i)) (and_left (is_dry h i && not (owes h i)) (is_sent h i)
-    (and_left (is_dry h i && not (owes h i) && is_sent h i) (all_noticed h i) (and_left (is_dry h i && not (owes h i) && is_sent h i && all_noticed h i) (not (is_confirm_due h i)) all)))
-  where
-    all : is_source_done h i ≡ true
-    all = ap (λ (b : Bool). if b then is_source_done h i else is_worker_done h i) (sym source) ∙ done
+    by_cause (inr drains_now) = drained (or_cases (is_marked h i) (source_at h i && false) (and_left (drains h i) (not (is_out_from_before h i)) drains_now))
 
 pub closed_takes_no_more : ClosedTakesNoMore
 closed_takes_no_more h i legal row source = go row.over
   where
     go : ((is_out h i ≡ true) × (is_done (at_lease h i) i ≡ true)) ⊎ (abandoned h ≡ true) → TakesNoMore h i
-    go (inl was) = more_since h i (dry_more (at_lease h i) i (legal_lease h i legal) (source_dry (at_lease h i) i (source_lease h i legal was.0 source) was.1))
+    go (inl was) = more_since h i (dry_more (at_lease h i) i (legal_lease h i legal) ((source_tests (at_lease h i) i (source_lease h i legal was.0 source) was.1).dry))
     go (inr gone) = inr (inr (has_cause h gone))
 
 -- LEASES AND ENDS
@@ -235,27 +222,14 @@ pub discarded_held : (h : Record) (i c : ℕ) → IsLegal h → 0 < count c (las
 discarded_held [] i c legal some none = absurd (omega (arith, some))
 discarded_held (Answer j made discarded kept ∷ h) i c legal some none = go (j == i) refl some (discarded_held h i c legal.1)
   where
-    sound : IsConserved (Answer j made discarded kept ∷ h)
-    sound = conserved (Answer j made discarded kept ∷ h) legal
-
-    before : times_spent h c ≡ 0
-    before = let all = count-append c (all_of spends h) [] in omega (arith, none, all)
-
     go : (b : Bool) → (j == i) ≡ b → 0 < count c (if b then discarded else last_discarded h i) → (0 < count c (last_discarded h i) → times_spent h c ≡ 0 → 0 < count c (joined (held h i))) →
         0 < count c (joined (held (Answer j made discarded kept ∷ h) i))
     go true here l rest =
         let same : j ≡ i = grind (arith, nat_tests) in
         let holds = answer_holds h j made discarded kept legal c in
         subst (λ (k : ℕ). 0 < count c (joined (held (Answer j made discarded kept ∷ h) k))) same (omega (arith, holds, l))
-    go false here l rest =
-        let stood = rest l before in
-        held_stays h (Answer j made discarded kept) i c sound (unreleased h i j c made discarded kept sound here stood) stood
-discarded_held (Spent j d outcome ∷ h) i c legal some none =
-    let all = count-append c (all_of spends h) (d ∷ []) in
-    held_stays h (Spent j d outcome) i c (conserved (Spent j d outcome ∷ h) legal) (omega (arith, none, all)) (discarded_held h i c legal.1 some (omega (arith, none, all)))
-discarded_held (e ∷ h) i c legal some none =
-    let all = count-append c (all_of spends h) [] in
-    held_stays h e i c (conserved (e ∷ h) legal) refl (discarded_held h i c legal.1 some (omega (arith, none, all)))
+    go false here l rest = held_on h (Answer j made discarded kept) i c (conserved (Answer j made discarded kept ∷ h) legal) here none (rest l)
+discarded_held (e ∷ h) i c legal some none = held_on h e i c (conserved (e ∷ h) legal) refl none (discarded_held h i c legal.1 some)
 
 is_oldest : (ps : List (List ℕ)) (c : ℕ) → 0 < count c (oldest ps) → IsOldest (oldest ps) ps
 is_oldest [] c some = absurd (omega (arith, some))

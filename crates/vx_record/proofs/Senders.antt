@@ -2,7 +2,7 @@
 use Rattle.std.proofs.Common.{◌≡◌, ℕ, ◌+◌, ◌<◌, Bool, true, false, List, [], ◌∷◌, Option, Some, None, refl, sym, ap, subst, ◌∙◌, arith, map, filter, inl, inr}
 use Rattle.std.specs.Prelude.{◌==◌, ◌&&◌, ◌||◌, ◌⊎◌, if◌then◌else◌}
 use Rattle.std.specs.List.{list_any, list_all}
-use Rattle.std.proofs.lemmas.Bool.{eqb-true}
+use Rattle.std.proofs.lemmas.Bool.{eqb-true, or_cases}
 use Rattle.std.proofs.lemmas.List.{append-nil}
 use Rattle.vx_value.specs.Texts.{ByteString}
 use Rattle.vx_plan.specs.declared.component.Component.{Component}
@@ -17,6 +17,7 @@ use Rattle.vx_record.specs.Turns.{is_out}
 use Rattle.vx_record.specs.Installs.{Wiring, wiring, name_at, is_new, started, component_or, source_at, transform_at, is_retired}
 use Rattle.vx_record.specs.Starting.{first_instances}
 use Rattle.vx_record.specs.Sourcing.{Yield, yield_of, yield}
+use Rattle.vx_record.specs.Ending.{MayRetire}
 use Rattle.vx_record.specs.Legal.{IsLegal}
 use Rattle.vx_record.proofs.Counts.{count-append}
 use Rattle.vx_record.proofs.OnePlace.{conserved}
@@ -176,38 +177,42 @@ other_sent (e ∷ h) i legal off other =
     sent_on h e i (conserved (e ∷ h) legal) (unput_other h e i legal no_source no_transform) (other_sent h i legal.1 no_source no_transform)
 
 -- WHO IS RETIRED
--- who is retired is unleased
+-- what holds where an instance retires, and stays with each entry, holds ever after
+pub since_retired : (Holds : Record → ℕ → Type 0) → ((h : Record) (i : ℕ) → IsLegal h → MayRetire h i → Holds h i) →
+    ((h : Record) (e : Entry) (i : ℕ) → IsLegal (e ∷ h) → is_retired (e ∷ h) i ≡ true → Holds h i → Holds (e ∷ h) i) →
+    (h : Record) (i : ℕ) → IsLegal h → is_retired h i ≡ true → Holds h i
+since_retired Holds begun on [] i legal is = cc
+since_retired Holds begun on (Retired j ∷ h) i legal is = on h (Retired j) i legal is (go (or_cases (j == i) (is_retired h i) is) (since_retired Holds begun on h i legal.1))
+  where
+    go : ((j == i) ≡ true) ⊎ (is_retired h i ≡ true) → (is_retired h i ≡ true → Holds h i) → Holds h i
+    go (inl here) rest = subst (Holds h) (eqb-true j i here) (begun h j legal.1 legal.0.row)
+    go (inr before) rest = rest before
+since_retired Holds begun on (e ∷ h) i legal is = on h e i legal is (since_retired Holds begun on h i legal.1 is)
+
+-- it is unleased
 pub retired_unleased : (h : Record) (i : ℕ) → IsLegal h → is_retired h i ≡ true → is_out h i ≡ false
-retired_unleased [] i legal is = cc
-retired_unleased (Lease j worker now polls ∷ h) i legal is = go (j == i) refl (retired_unleased h i legal.1 is)
+retired_unleased = since_retired (λ h i. is_out h i ≡ false) (λ h i legal row. row.unleased) on
   where
-    go : (b : Bool) → (j == i) ≡ b → is_out h i ≡ false → (if b then true else is_out h i) ≡ false
-    go true here rest =
-        let same : j ≡ i = eqb-true j i here in
-        let no : true ≡ false = sym is ∙ subst (λ (k : ℕ). is_retired h k ≡ false) same legal.0.row.unretired in cc
-    go false here rest = rest
-retired_unleased (Home j ∷ h) i legal is = go (j == i) (retired_unleased h i legal.1 is)
-  where
-    go : (b : Bool) → is_out h i ≡ false → (if b then false else is_out h i) ≡ false
-    go true rest = refl
-    go false rest = rest
-retired_unleased (Retired j ∷ h) i legal is = go (j == i) refl is (retired_unleased h i legal.1)
-  where
-    go : (b : Bool) → (j == i) ≡ b → (b || is_retired h i) ≡ true → (is_retired h i ≡ true → is_out h i ≡ false) → is_out h i ≡ false
-    go true here e rest = let same : j ≡ i = eqb-true j i here in subst (λ (k : ℕ). is_out h k ≡ false) same legal.0.row.unleased
-    go false here e rest = rest e
-retired_unleased (e ∷ h) i legal is = retired_unleased h i legal.1 is
+    on : (h : Record) (e : Entry) (i : ℕ) → IsLegal (e ∷ h) → is_retired (e ∷ h) i ≡ true → is_out h i ≡ false → is_out (e ∷ h) i ≡ false
+    on h (Lease j worker now polls) i legal is rest = go (j == i) refl
+      where
+        go : (b : Bool) → (j == i) ≡ b → (if b then true else is_out h i) ≡ false
+        go true here =
+            let no : true ≡ false = sym is ∙ subst (λ (k : ℕ). is_retired h k ≡ false) (eqb-true j i here) legal.0.row.unretired in cc
+        go false here = rest
+    on h (Home j) i legal is rest = go (j == i)
+      where
+        go : (b : Bool) → (if b then false else is_out h i) ≡ false
+        go true = refl
+        go false = rest
+    on h e i legal is rest = rest
 
 -- and puts nothing out
-unput_retired : (h : Record) (e : Entry) (i : ℕ) → IsLegal (e ∷ h) → is_retired h i ≡ true → puts_out i e ≡ false
+unput_retired : (h : Record) (e : Entry) (i : ℕ) → IsLegal (e ∷ h) → is_retired (e ∷ h) i ≡ true → puts_out i e ≡ false
+unput_retired h (Retired j) i legal is = refl
 unput_retired h e i legal is = unput_by h e i legal (λ out of. let no : true ≡ false = sym out ∙ retired_unleased h i legal.1 is in cc)
 
--- so nothing that a retired instance put out stands anywhere
+-- so nothing that it put out stands anywhere
 pub retired_sent : (h : Record) (i : ℕ) → IsLegal h → is_retired h i ≡ true → Sent h i
-retired_sent [] i legal is = cc
-retired_sent (Retired j ∷ h) i legal is = sent_on h (Retired j) i (conserved (Retired j ∷ h) legal) refl (go (j == i) refl is (retired_sent h i legal.1))
-  where
-    go : (b : Bool) → (j == i) ≡ b → (b || is_retired h i) ≡ true → (is_retired h i ≡ true → Sent h i) → Sent h i
-    go true here e rest = let same : j ≡ i = eqb-true j i here in subst (λ (k : ℕ). Sent h k) same (bare_sent h j (retired_bare h j legal.1 legal.0.row))
-    go false here e rest = rest e
-retired_sent (e ∷ h) i legal is = sent_on h e i (conserved (e ∷ h) legal) (unput_retired h e i legal is) (retired_sent h i legal.1 is)
+retired_sent = since_retired Sent (λ h i legal row. bare_sent h i (retired_bare h i legal row))
+    (λ h e i legal is. sent_on h e i (conserved (e ∷ h) legal) (unput_retired h e i legal is))

@@ -29,7 +29,8 @@ use Rattle.vx_record.specs.Legal.{IsLegal}
 use Rattle.vx_record.proofs.OnePlace.{conserved}
 use Rattle.vx_record.proofs.Dues.{awaits}
 use Rattle.vx_record.proofs.Notices.{noticed}
-use Rattle.vx_record.proofs.LegalNotices.{accounted}
+use Rattle.vx_record.proofs.LegalNotices.{accounted, noticed_times}
+use Rattle.vx_record.proofs.Done.{source_tests}
 use Rattle.vx_record.proofs.Vacant.{Sent, creates, sent_of, is_sent_of, sent_on}
 use Rattle.vx_record.proofs.Answerers.{source_untransforming, unanswering}
 use Rattle.vx_record.proofs.Turning.{turn_undry}
@@ -47,47 +48,13 @@ pub record SourceDone (h : Record) (i : ℕ) : Type 0 where
 
 -- where the test says so
 pub source_done : (h : Record) (i : ℕ) → source_at h i ≡ true → is_done h i ≡ true → SourceDone h i
-source_done h i source done = record {
-  source = source;
-  dry = (and_parts d o ((and_parts (d && o) s one).0)).0;
-  settled = not-true (owes h i) ((and_parts d o ((and_parts (d && o) s one).0)).1);
-  sent = sent_of h i ((and_parts (d && o) s one).1);
-  noticed = (and_parts (d && o && s) n two).1;
-  undue = not-true (is_confirm_due h i) ((and_parts (d && o && s && n) u all).1);
-}
-  where
-    d : Bool
-    d = is_dry h i
-
-    o : Bool
-    o = not (owes h i)
-
-    s : Bool
-    s = is_sent h i
-
-    n : Bool
-    n = all_noticed h i
-
-    u : Bool
-    u = not (is_confirm_due h i)
-
-    all : (d && o && s && n && u) ≡ true
-    all = ap (λ (b : Bool). if b then is_source_done h i else is_worker_done h i) (sym source) ∙ done
-
-    two : (d && o && s && n) ≡ true
-    two = (and_parts (d && o && s && n) u all).0
-
-    one : (d && o && s) ≡ true
-    one = (and_parts (d && o && s) n two).0
+source_done h i source done =
+    let tests = source_tests h i source done in
+    record { source = source; dry = tests.dry; settled = tests.settled; sent = sent_of h i tests.sent; noticed = tests.noticed; undue = tests.undue }
 
 -- and then the test does
 all_five : (d o s n u : Bool) → d ≡ true → o ≡ false → s ≡ true → n ≡ true → u ≡ false → (d && not o && s && n && not u) ≡ true
-all_five false o s n u a b c e f = cc
-all_five true true s n u a b c e f = cc
-all_five true false false n u a b c e f = cc
-all_five true false true false u a b c e f = cc
-all_five true false true true true a b c e f = cc
-all_five true false true true false a b c e f = refl
+all_five d o s n u a b c e f = rw (a, b, c, e, f) refl
 
 pub done_source : (h : Record) (i : ℕ) → SourceDone h i → is_done h i ≡ true
 done_source h i is =
@@ -184,16 +151,6 @@ noticed_on h e i off all =
     ap (λ (bs : List Birth). list_all (λ (birth : Birth). is_noticed (e ∷ h) birth.batch) bs) (births_same e h i off) ∙ each_noticed e h (births h i) all
 
 -- ITS CONFIRMS
--- what is noticed has a notice
-noticed_times : (h : Record) (b : ℕ) → is_noticed h b ≡ true → 0 < times_noticed h b
-noticed_times [] b e = cc
-noticed_times (Notice b' status ∷ h) b e = go (b' == b) (λ d. noticed_times h b d) e
-  where
-    go : (same : Bool) → (is_noticed h b ≡ true → 0 < times_noticed h b) → (same || is_noticed h b) ≡ true → 0 < (if same then 1 else 0) + times_noticed h b
-    go true ih e = omega arith
-    go false ih e = let l = ih e in omega arith
-noticed_times (e ∷ h) b d = noticed_times h b d
-
 -- a batch is noticed once
 unnoticed : (h : Record) (b : ℕ) (status : BatchStatus) → IsLegal (Notice b status ∷ h) → is_noticed h b ≡ false
 unnoticed h b status legal = go (is_noticed h b) refl

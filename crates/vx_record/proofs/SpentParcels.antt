@@ -19,15 +19,16 @@ use Rattle.vx_record.specs.Parcels.{first_copy}
 use Rattle.vx_record.specs.Moving.{Releases}
 use Rattle.vx_record.specs.Legal.{IsLegal}
 use Rattle.vx_record.specs.Tallies.{outcome_of, was_spent, first_spent, is_unread, is_newest, is_output, is_child_for, is_held_by, same_status, spent_as, one_if, count_puts, parcels_that, unread_parcels, newest_parcels, parcels_spent}
-use Rattle.vx_record.specs.Growth.{begins_with, passing_now, unread_in, newest_in, spent_in, RisesLegally, SpentRises}
+use Rattle.vx_record.specs.Growth.{begins_with, first_in, unread_in, newest_in, spent_in, RisesLegally, SpentRises}
 use Rattle.vx_record.proofs.Counts.{count-append}
 use Rattle.vx_record.specs.Sending.{IsOldest}
 use Rattle.vx_record.specs.Routing.{routes}
 use Rattle.vx_record.specs.Parcels.{port_list}
 use Rattle.vx_record.specs.Lists.{times_among}
-use Rattle.vx_record.proofs.OnePlace.{conserved, tracked, live_stands}
+use Rattle.vx_record.proofs.OnePlace.{conserved, tracked}
 use Rattle.vx_record.proofs.Place.{count-oldest}
-use Rattle.vx_record.proofs.Changes.{places_meant, oldest_full}
+use Rattle.vx_record.proofs.Changes.{oldest_full}
+use Rattle.vx_record.proofs.HeldCopies.{held_is_live}
 
 -- PUTS THAT PASS A TEST
 pub count_puts-append : (test : Put → Bool) (xs ys : List Put) → count_puts test (xs ++ ys) ≡ count_puts test xs + count_puts test ys
@@ -36,11 +37,7 @@ count_puts-append test (x ∷ xs) ys = let rest = count_puts-append test xs ys i
 
 -- of what passes after, some passed before, and some passes now for the first time
 parts_of : (here now before : Bool) → one_if (here && (now || before)) ≡ one_if (here && before) + one_if (here && (now && not before))
-parts_of false now before = refl
-parts_of true false false = refl
-parts_of true false true = refl
-parts_of true true false = refl
-parts_of true true true = refl
+parts_of here now before = grind arith
 
 count_parts : (here : Place → Bool) (after now before : List ℕ → Bool) (xs : List Put) → ((copies : List ℕ) → after copies ≡ (now copies || before copies)) →
     count_puts (λ (put : Put). here put.place && after put.copies) xs
@@ -161,25 +158,13 @@ answer_none test h here i (output ∷ rest) none =
     let others = answer_none test h here i rest (λ c l. none c (let e = count-append c output.copies (put_out rest) in omega arith)) in
     omega arith
 
-times_some : (p : Place) (ps : List Place) → 0 < times_among p ps → 0 < length ps
-times_some p [] l = absurd (omega arith)
-times_some p (q ∷ ps) l = omega arith
-
 -- a copy that is put out is live until then
 released_live : (h : Record) (i : ℕ) (made : List Output) → IsLegal h → Releases h i made → (c : ℕ) → 0 < count c (put_out made) → IsLive h c
-released_live h i made legal released c l =
-    let r = released c in
-    let meant = places_meant h c (Held i) in
-    (live_stands h legal c).1 (times_some (Held i) (places h c) (omega arith))
+released_live h i made legal released = held_is_live h (Held i) (put_out made) (conserved h legal) (λ c l. let r = released c in omega arith)
 
 -- what a test counts, among what stood there and some new puts of which none passes
 pub still : (test : Put → Bool) (old new : List Put) → count_puts test new ≡ 0 → count_puts test (old ++ new) ≡ count_puts test old + 0
 still test old new none = let both = count_puts-append test old new in omega arith
-
--- the parcels that an entry makes pass
-abbrev first_in : (Outcome → Bool) → (Place → Bool) → Record → Entry → ℕ
-first_in test here h (Spent j c outcome) = passing_now test here h c outcome
-first_in test here h other = 0
 
 -- how an entry changes the number of the parcels, at some places, whose first copy passes
 first_rises : (test : Outcome → Bool) (here : Place → Bool) → ((i s : ℕ) → here (Contents i s) ≡ false) → ((i : ℕ) → here (Held i) ≡ false) →
@@ -239,10 +224,8 @@ answer_elsewhere test i j (output ∷ rest) = let others = answer_elsewhere test
 first_live : (h : Record) (p : Place) (copies : List ℕ) → IsLegal h → IsOldest copies (parcels_at p (stands h)) → IsLive h (first_copy copies)
 first_live h p [] legal oldest = let full = oldest_full h p [] oldest in cc
 first_live h p (c ∷ rest) legal oldest =
-    let here : 0 < count c (c ∷ rest) = grind (arith, nat_tests) in
-    let among = count-oldest c (c ∷ rest) (parcels_at p (stands h)) oldest in
-    let meant = places_meant h c p in
-    (live_stands h legal c).1 (times_some p (places h c) (omega arith))
+    held_is_live h p (c ∷ rest) (conserved h legal)
+    (λ d l. let among = count-oldest d (c ∷ rest) (parcels_at p (stands h)) oldest in omega arith) c (grind (arith, nat_tests))
 
 held_rises : (status : EventStatus) → RisesLegally (parcels_spent status) (spent_in status)
 held_rises status (Born j b place copies events waits stream end) h i legal =
@@ -272,18 +255,10 @@ held_rises status (Spent j c outcome) h i legal =
 held_rises status e h i legal = still (λ (put : Put). is_held_by i put.place && spent_as status h put.copies) (all_puts h) [] refl
 
 unread_rises : RisesLegally unread_parcels unread_in
-unread_rises e h i legal = first_rises is_unread (is_output i) (λ j s. refl) (λ j. refl) e h legal ∙ ap (λ n. unread_parcels h i + n) (same e)
-  where
-    same : (e : Entry) → first_in is_unread (is_output i) h e ≡ unread_in h i e
-    same (Spent j c outcome) = refl
-    same e = refl
+unread_rises e h i legal = first_rises is_unread (is_output i) (λ j s. refl) (λ j. refl) e h legal
 
 newest_rises : RisesLegally newest_parcels newest_in
-newest_rises e h i legal = first_rises is_newest (is_child_for i) (λ j s. refl) (λ j. refl) e h legal ∙ ap (λ n. newest_parcels h i + n) (same e)
-  where
-    same : (e : Entry) → first_in is_newest (is_child_for i) h e ≡ newest_in h i e
-    same (Spent j c outcome) = refl
-    same e = refl
+newest_rises e h i legal = first_rises is_newest (is_child_for i) (λ j s. refl) (λ j. refl) e h legal
 
 pub spent_rises : SpentRises
 spent_rises = (unread_rises, newest_rises, held_rises)

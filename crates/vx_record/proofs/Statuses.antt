@@ -11,7 +11,7 @@ use Rattle.vx_status.specs.declared.batch_status.BatchStatus.{BatchStatus}
 use Rattle.vx_record.specs.declared.entry.Entry.TheVariants.{Born, Split, Spent}
 use Rattle.vx_status.specs.declared.event_status.EventStatus.TheVariants as event
 use Rattle.vx_status.specs.declared.batch_status.BatchStatus.TheVariants as batch
-use Rattle.vx_status.specs.Tables.{status_of, event_update, batch_update, IsGood}
+use Rattle.vx_status.specs.Tables.{status_of, event_update, batch_update, event_rank, batch_rank, IsGood}
 use Rattle.vx_record.specs.Copies.{count, next_copy}
 use Rattle.vx_record.specs.Batches.{parent, batch_of, root_of, roots}
 use Rattle.vx_record.specs.Statuses.{outcomes, event_fold, event_status, batch_fold, batch_status, running, AllGood}
@@ -21,26 +21,15 @@ use Rattle.vx_record.proofs.Counts.{counting_before, counting_within, counting_a
 use Rattle.vx_record.proofs.Live.{if_lt, if_ge, parent_live}
 use Rattle.vx_record.proofs.Notices.{kept, batch_made}
 
--- the statuses in order: both tables give the greater of two
-abbrev pub rank : EventStatus → ℕ
-rank event.Dropped = 0
-rank event.Delivered = 1
-rank event.Errored = 2
-rank event.Rejected = 3
-
-abbrev pub batch_rank : BatchStatus → ℕ
-batch_rank batch.Delivered = 1
-batch_rank batch.Errored = 2
-batch_rank batch.Rejected = 3
-
-rank-event_update : (s t : EventStatus) → rank (event_update s t) ≡ max (rank s) (rank t)
+-- both tables give the greater of two ranks
+rank-event_update : (s t : EventStatus) → event_rank (event_update s t) ≡ max (event_rank s) (event_rank t)
 rank-event_update event.Dropped event.Dropped = refl
 rank-event_update event.Delivered event.Delivered = refl
 rank-event_update event.Errored event.Errored = refl
 rank-event_update event.Rejected event.Rejected = refl
 rank-event_update s t = refl
 
-rank-batch_update : (s : BatchStatus) (t : EventStatus) → batch_rank (batch_update s t) ≡ max (batch_rank s) (rank t)
+rank-batch_update : (s : BatchStatus) (t : EventStatus) → batch_rank (batch_update s t) ≡ max (batch_rank s) (event_rank t)
 rank-batch_update batch.Delivered event.Dropped = refl
 rank-batch_update batch.Errored event.Errored = refl
 rank-batch_update batch.Rejected event.Rejected = refl
@@ -54,13 +43,13 @@ same_rank s t e = absurd (omega arith)
 
 abbrev pub worst : List Outcome → ℕ
 worst [] = 0
-worst (o ∷ os) = max (rank (status_of o)) (worst os)
+worst (o ∷ os) = max (event_rank (status_of o)) (worst os)
 
-worst_push : (os : List Outcome) (o : Outcome) → worst (os ++ o ∷ []) ≡ max (worst os) (rank (status_of o))
+worst_push : (os : List Outcome) (o : Outcome) → worst (os ++ o ∷ []) ≡ max (worst os) (event_rank (status_of o))
 worst_push [] o = omega arith
 worst_push (p ∷ os) o = let e = worst_push os o in omega arith
 
-rank-event_fold : (s : EventStatus) (os : List Outcome) → rank (event_fold s os) ≡ max (rank s) (worst os)
+rank-event_fold : (s : EventStatus) (os : List Outcome) → event_rank (event_fold s os) ≡ max (event_rank s) (worst os)
 rank-event_fold s [] = omega arith
 rank-event_fold s (o ∷ os) =
     let e = rank-event_fold (event_update s (status_of o)) os in
@@ -70,7 +59,7 @@ rank-event_fold s (o ∷ os) =
 -- the worst of the events below some roots
 abbrev pub peak : (ℕ → EventStatus) → List ℕ → ℕ
 peak f [] = 0
-peak f (r ∷ rs) = max (rank (f r)) (peak f rs)
+peak f (r ∷ rs) = max (event_rank (f r)) (peak f rs)
 
 rank-batch_fold : (f : ℕ → EventStatus) (s : BatchStatus) (rs : List ℕ) → batch_rank (batch_fold f s rs) ≡ max (batch_rank s) (peak f rs)
 rank-batch_fold f s [] = omega arith
@@ -79,7 +68,7 @@ rank-batch_fold f s (r ∷ rs) =
     let g = rank-batch_update s (f r) in
     omega arith
 
-peak_none : (f : ℕ → EventStatus) (rs : List ℕ) → ((r : ℕ) → 0 < count r rs → rank (f r) ≡ 0) → peak f rs ≡ 0
+peak_none : (f : ℕ → EventStatus) (rs : List ℕ) → ((r : ℕ) → 0 < count r rs → event_rank (f r) ≡ 0) → peak f rs ≡ 0
 peak_none f [] h = refl
 peak_none f (r ∷ rs) h =
     let here : 0 < count r (r ∷ rs) = grind (arith, nat_tests) in
@@ -88,7 +77,7 @@ peak_none f (r ∷ rs) h =
     omega arith
 
 -- one event of the batch gets worse
-peak_raised : (f g : ℕ → EventStatus) (root x : ℕ) (rs : List ℕ) → rank (g root) ≡ max (rank (f root)) x →
+peak_raised : (f g : ℕ → EventStatus) (root x : ℕ) (rs : List ℕ) → event_rank (g root) ≡ max (event_rank (f root)) x →
     ((r : ℕ) → (root ≡ r → ⊥) → g r ≡ f r) →
     ((count root rs ≡ 0) × (peak g rs ≡ peak f rs)) ⊎ ((0 < count root rs) × (peak g rs ≡ max (peak f rs) x))
 peak_raised f g root x [] at others = inl (refl, refl)
@@ -97,11 +86,11 @@ peak_raised f g root x (r ∷ rs) at others =
     elim (cases_eq r root) [
       | inl same ↦
           let here : 0 < count root (r ∷ rs) = grind (arith, nat_tests) in
-          let e : rank (g r) ≡ max (rank (f r)) x =
-          ap (λ q. rank (g q)) same ∙ at ∙ ap (λ q. max (rank (f q)) x) (sym same) in
+          let e : event_rank (g r) ≡ max (event_rank (f r)) x =
+          ap (λ q. event_rank (g q)) same ∙ at ∙ ap (λ q. max (event_rank (f q)) x) (sym same) in
           inr (here, elim rest [ inl a ↦ omega arith | inr a ↦ omega arith ])
       | inr other ↦
-          let e = ap rank (others r (λ w. other (sym w))) in
+          let e = ap event_rank (others r (λ w. other (sym w))) in
           let skip : count root (r ∷ rs) ≡ count root rs = grind (arith, nat_tests) in
           elim rest [ inl a ↦ inl (omega arith, omega arith) | inr a ↦ inr (omega arith, omega arith) ]
     ]
@@ -232,7 +221,7 @@ status_rank (Born i b' place copies events waits stream end ∷ h) b sound =
       | inl same ↦
           let born = sound.0.accounts.number in
           let x = ap batch_rank (running_future h b sound.1 (omega arith)) in
-          let y = peak_none (event_status h) copies (λ r l. ap (λ os. rank (event_fold event.Dropped os))
+          let y = peak_none (event_status h) copies (λ r l. ap (λ os. event_rank (event_fold event.Dropped os))
           (outcomes_future h r sound.1 (new_root h r i b' place copies events waits stream end sound l))) in
           rw (if_same b' b copies (roots h b) same) (omega arith)
       | inr other ↦ rw (if_other b' b copies (roots h b) other) (status_rank h b sound.1)
@@ -242,11 +231,11 @@ status_rank (Spent i c o ∷ h) b sound =
     let made = sound.0.conserves.0 in
     let root = root_of h c in
     let before = outcomes h root in
-    let e₁ = ap (λ os. rank (event_fold event.Dropped os)) (if_same root root (before ++ o ∷ []) before refl) in
+    let e₁ = ap (λ os. event_rank (event_fold event.Dropped os)) (if_same root root (before ++ o ∷ []) before refl) in
     let e₂ = rank-event_fold event.Dropped (before ++ o ∷ []) in
     let e₃ = rank-event_fold event.Dropped before in
     let e₄ = worst_push before o in
-    let raised = peak_raised (event_status h) (event_status (Spent i c o ∷ h)) root (rank (status_of o)) (roots h b) (omega arith)
+    let raised = peak_raised (event_status h) (event_status (Spent i c o ∷ h)) root (event_rank (status_of o)) (roots h b) (omega arith)
     (λ r other. ap (event_fold event.Dropped) (if_other root r (outcomes h r ++ o ∷ []) (outcomes h r) other)) in
     let u = rank-batch_update (running h b) (status_of o) in
     elim (cases_eq (batch_of h c) b) [
@@ -264,14 +253,14 @@ status_rank (e ∷ h) b sound = status_rank h b sound.1
 pub running_so : (h : Record) (b : ℕ) → IsAccounted h → running h b ≡ batch_status h b
 running_so h b sound = same_rank (running h b) (batch_status h b) (status_rank h b sound ∙ sym (rank-batch_fold (event_status h) batch.Delivered (roots h b)))
 
-good_rank : (o : Outcome) → IsGood o → rank (status_of o) ≤ 1
+good_rank : (o : Outcome) → IsGood o → event_rank (status_of o) ≤ 1
 good_rank Delivered g = omega arith
 good_rank Filtered g = omega arith
 good_rank NewestDropped g = omega arith
 good_rank NoConsumer g = omega arith
 good_rank o g = absurd g
 
-rank_good : (o : Outcome) → rank (status_of o) ≤ 1 → IsGood o
+rank_good : (o : Outcome) → event_rank (status_of o) ≤ 1 → IsGood o
 rank_good Delivered l = tt
 rank_good Filtered l = tt
 rank_good NewestDropped l = tt

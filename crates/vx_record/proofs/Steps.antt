@@ -34,31 +34,10 @@ none_move h e c n =
     let b = ap (count c) n.births in
     let x = ap (count c) n.spends in
     let y = ap (count c) n.splits in
-    let lo = ap (count c) (n.leaves AnOutput) in
-    let lw = ap (count c) (n.leaves AChild) in
-    let lc = ap (count c) (n.leaves AStage) in
-    let lh = ap (count c) (n.leaves AHold) in
-    let po = ap (λ ps. put_count AnOutput ps c) n.puts in
-    let pw = ap (λ ps. put_count AChild ps c) n.puts in
-    let pc = ap (λ ps. put_count AStage ps c) n.puts in
-    let ph = ap (λ ps. put_count AHold ps c) n.puts in
+    let left = λ (k : Kind). ap (count c) (n.leaves k) in
+    let put = λ (k : Kind). ap (λ ps. put_count k ps c) n.puts in
     let m = n.makes in
-    record {
-      makes_old = λ l. omega arith;
-      makes_new = λ l u. absurd (omega arith);
-      makes_none = λ l. omega arith;
-      pushed = omega arith;
-      taken = omega arith;
-      answered = omega arith;
-      ended = omega arith;
-      push = omega arith;
-      take = omega arith;
-      birth = omega arith;
-      answer = omega arith;
-      split = omega arith;
-      once = omega arith;
-      live = λ l. absurd (omega arith);
-    }
+    grind (arith, left AnOutput, left AChild, left AStage, left AHold, put AnOutput, put AChild, put AStage, put AHold)
 
 pub put_count-one_each : (k : Kind) (p : Place) (c : ℕ) (cs : List ℕ) → put_count k (one_each p cs) c ≡ only k (kind p) (count c cs)
 put_count-one_each k p c [] = sym (only-zero k (kind p))
@@ -123,147 +102,46 @@ children_after c next m (t ∷ ts) l =
 
 born_moves : (h : Record) (c i b place : ℕ) (copies : List ℕ) (events : List Event) (waits : Bool) (stream end : ℕ) → Conserves h (Born i b place copies events waits stream end) → Moves h (Born i b place copies events waits stream end) c
 born_moves h c i b place copies events waits stream end a =
-    let p = put_count-one_each AnOutput (Outputs i) c copies in
-    let q = put_count-one_each AChild (Outputs i) c copies in
-    let r = put_count-one_each AStage (Outputs i) c copies in
-    let s = put_count-one_each AHold (Outputs i) c copies in
     let f = ap (count c) a in
-    record {
-      makes_old = λ l. let x = counting_before c (next_copy h) (length copies) l in omega arith;
-      makes_new = λ l u. let x = counting_within c (next_copy h) (length copies) l u in omega arith;
-      makes_none = λ l. let x = counting_after c (next_copy h) (length copies) l in omega arith;
-      pushed = omega arith;
-      taken = omega arith;
-      answered = omega arith;
-      ended = refl;
-      push = omega arith;
-      take = omega arith;
-      birth = omega arith;
-      answer = omega arith;
-      split = omega arith;
-      once = omega arith;
-      live = λ l. absurd (omega arith);
-    }
+    grind (arith, put_count-one_each, counting_before c (next_copy h) (length copies), counting_within c (next_copy h) (length copies), counting_after c (next_copy h) (length copies))
 
 split_moves : (h : Record) (c i ports : ℕ) (copies : List ℕ) (event : Event) (children : List Child) → Conserves h (Split i ports copies event children) →
     Moves h (Split i ports copies event children) c
 split_moves h c i ports copies event children a =
-    let p = put_count-children AnOutput i c children in
-    let q = put_count-children AChild i c children in
-    let r = put_count-children AStage i c children in
-    let s = put_count-children AHold i c children in
     let targets = a.made.0 in
     let f = ap (λ (x : List Child). count c (family x)) a.made.1 in
     let same = ap (λ (x : List Child). length x * length copies) a.made.1 in
     let many = ap (λ n. n * length copies) (length-children_of (next_copy h) (length copies) targets) in
     let e = count-oldest c copies (outputs h i) a.oldest in
     let g = count-parcels_at c (Outputs i) (left h) (all_puts h) in
-    record {
-      makes_old = λ l. let x = children_before c (next_copy h) (length copies) targets l in omega arith;
-      makes_new = λ l u. let x = children_within c (next_copy h) (length copies) targets l (omega arith) in omega arith;
-      makes_none = λ l. let x = children_after c (next_copy h) (length copies) targets (omega arith) in omega arith;
-      pushed = omega arith;
-      taken = omega arith;
-      answered = omega arith;
-      ended = omega arith;
-      push = omega arith;
-      take = omega arith;
-      birth = omega arith;
-      answer = omega arith;
-      split = omega arith;
-      once = omega arith;
-      live = λ l. absurd (omega arith);
-    }
+    let put = λ (k : Kind). put_count-children k i c children in
+    grind (arith, put AnOutput, put AChild, put AStage, put AHold, children_before c (next_copy h) (length copies) targets, children_within c (next_copy h) (length copies) targets, children_after c (next_copy h) (length copies) targets)
 
 push_moves : (h : Record) (c i t s : ℕ) (copies : List ℕ) → Conserves h (Push i t s copies) → Moves h (Push i t s copies) c
 push_moves h c i t s copies a =
     let e = count-oldest c copies (waiting h i t) a in
     let f = count-parcels_at c (Waiting i t) (left h) (all_puts h) in
-    record {
-      makes_old = λ l. refl;
-      makes_new = λ l u. absurd (omega arith);
-      makes_none = λ l. refl;
-      pushed = omega arith;
-      taken = refl;
-      answered = refl;
-      ended = refl;
-      push = omega arith;
-      take = omega arith;
-      birth = omega arith;
-      answer = omega arith;
-      split = omega arith;
-      once = omega arith;
-      live = λ l. absurd (omega arith);
-    }
+    grind arith
 
 take_moves : (h : Record) (c i s : ℕ) (copies : List ℕ) → Conserves h (Take i s copies) → Moves h (Take i s copies) c
 take_moves h c i s copies a =
     let e = count-oldest c copies (contents h i s) a in
     let f = count-parcels_at c (Contents i s) (left h) (all_puts h) in
-    record {
-      makes_old = λ l. refl;
-      makes_new = λ l u. absurd (omega arith);
-      makes_none = λ l. refl;
-      pushed = refl;
-      taken = omega arith;
-      answered = refl;
-      ended = refl;
-      push = omega arith;
-      take = omega arith;
-      birth = omega arith;
-      answer = omega arith;
-      split = omega arith;
-      once = omega arith;
-      live = λ l. absurd (omega arith);
-    }
+    grind arith
 
 answer_moves : (h : Record) (c i : ℕ) (made : List Output) (discarded kept : List ℕ) → Conserves h (Answer i made discarded kept) →
     Moves h (Answer i made discarded kept) c
 answer_moves h c i made discarded kept a =
-    let p = put_count-outputs AnOutput i c made in
-    let q = put_count-outputs AChild i c made in
-    let r = put_count-outputs AStage i c made in
-    let s = put_count-outputs AHold i c made in
     let e = a c in
     let f = count-parcels_at c (Held i) (left h) (all_puts h) in
-    record {
-      makes_old = λ l. omega arith;
-      makes_new = λ l u. absurd (omega arith);
-      makes_none = λ l. omega arith;
-      pushed = omega arith;
-      taken = omega arith;
-      answered = omega arith;
-      ended = refl;
-      push = omega arith;
-      take = omega arith;
-      birth = omega arith;
-      answer = omega arith;
-      split = omega arith;
-      once = omega arith;
-      live = λ l. absurd (omega arith);
-    }
+    let put = λ (k : Kind). put_count-outputs k i c made in
+    grind (arith, put AnOutput, put AChild, put AStage, put AHold)
 
-same : (d c : ℕ) → 0 < (if d == c then 1 else 0) + 0 → d ≡ c
-same d c l = grind (arith, nat_tests)
+live_still : (h : Record) (d c : ℕ) → IsLive h d → 0 < count c (d ∷ []) → IsLive h c
+live_still h d c live l = let same : d ≡ c = grind (arith, nat_tests) in subst (IsLive h) same live
 
 spent_moves : (h : Record) (c i d : ℕ) (outcome : Outcome) → Conserves h (Spent i d outcome) → Moves h (Spent i d outcome) c
-spent_moves h c i d outcome a =
-    record {
-      makes_old = λ l. refl;
-      makes_new = λ l u. absurd (omega arith);
-      makes_none = λ l. refl;
-      pushed = omega arith;
-      taken = omega arith;
-      answered = omega arith;
-      ended = omega arith;
-      push = omega arith;
-      take = omega arith;
-      birth = omega arith;
-      answer = omega arith;
-      split = omega arith;
-      once = grind (arith, nat_tests);
-      live = λ l. let e = same d c l in let f : IsLive h c = subst (IsLive h) e a in (f.0, f.1, f.2, refl);
-    }
+spent_moves h c i d outcome a = grind (arith, nat_tests, live_still h d c a)
 
 pub moves : (h : Record) (e : Entry) (c : ℕ) → Conserves h e → Moves h e c
 moves h (Born i b place copies events waits stream end) c a = born_moves h c i b place copies events waits stream end a

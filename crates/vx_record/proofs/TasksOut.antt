@@ -16,7 +16,7 @@ use Rattle.vx_record.specs.Tasks.{is_of, mine, out_to, IsOwn}
 use Rattle.vx_record.specs.Makers.{maker, IsBy, IsByOther, IsByNone, IsFor, Spares, IsOfNone}
 use Rattle.vx_record.specs.TaskLaws.{OutToWorker, LeasedWhenUnleased, OutMadeBy, OthersSpare, WorkersSpare, NoneSpares, TasksSpare, TasklessSpares, SparedStays, TasksOut}
 use Rattle.vx_record.proofs.Mine.{others}
-use Rattle.vx_record.proofs.OwnTurns.{worker_apart, worker_own, out_own}
+use Rattle.vx_record.proofs.OwnTurns.{worker_acts, worker_own, out_own}
 use Rattle.vx_record.proofs.OwnReads.{taken_own, ended_own}
 use Rattle.vx_record.proofs.OwnConfirms.{confirmed_own, given_own}
 use Rattle.vx_record.proofs.Adding.{carry, adds_wider, adds_narrower, adds_legal}
@@ -87,7 +87,7 @@ others_spare old new i worker out adds =
   where
     go : (h : Record) (e : Entry) → Follows h e → IsByOther worker h e → out_to h i ≡ Some worker → (b : Bool) → is_of i e ≡ b → (is_of i e ≡ false) × (out_to (e ∷ h) i ≡ Some worker)
     go h e follows other was true is = absurd (other (made_by h e i worker follows was is))
-    go h e follows other was false is = (is, worker_apart h e i is ∙ was)
+    go h e follows other was false is = (is, (worker_acts e i).apart is h ∙ was)
 
 pub workers_spare : WorkersSpare
 workers_spare old new i worker other differ out adds =

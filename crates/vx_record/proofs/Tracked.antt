@@ -53,25 +53,21 @@ stand_cases k h c = go (gone_from k h c) (put_in k h c)
     go zero n = inl (refl, refl)
     go (suc m) n = inr (omega arith, refl)
 
-pub places_one : (h : Record) (c : ℕ) → Tracked h c → c < next_copy h → times_split h c + times_spent h c + length (places h c) ≡ 1
-places_one h c t l =
+-- in all places stand as many as were made, unless they were split or spent
+standing_made : (h : Record) (c n : ℕ) → Tracked h c → n ≤ 1 → born h c + put_in AChild h c ≡ n → times_split h c + times_spent h c + length (places h c) ≡ n
+standing_made h c n t l m =
     let e = length-places_in c (left h) (all_puts h) in
-    let m = t.made l in
     let o = stand_cases AnOutput h c in
     let w = stand_cases AChild h c in
     let s = stand_cases AStage h c in
     let a = stand_cases AHold h c in
     grind arith
 
+pub places_one : (h : Record) (c : ℕ) → Tracked h c → c < next_copy h → times_split h c + times_spent h c + length (places h c) ≡ 1
+places_one h c t l = standing_made h c 1 t (omega arith) (t.made l)
+
 pub unmade_nowhere : (h : Record) (c : ℕ) → Tracked h c → next_copy h ≤ c → length (places h c) ≡ 0
-unmade_nowhere h c t l =
-    let e = length-places_in c (left h) (all_puts h) in
-    let m = t.unmade l in
-    let o = stand_cases AnOutput h c in
-    let w = stand_cases AChild h c in
-    let s = stand_cases AStage h c in
-    let a = stand_cases AHold h c in
-    grind arith
+unmade_nowhere h c t l = let none = standing_made h c 0 t (omega arith) (t.unmade l) in omega arith
 
 -- what an entry does to a copy
 pub record Moves (h : Record) (e : Entry) (c : ℕ) : Type 0 where

@@ -21,16 +21,8 @@ use Rattle.vx_record.specs.Legal.{IsLegal}
 use Rattle.vx_record.proofs.Counts.{count-append}
 use Rattle.vx_record.specs.Promises.{HeldFailed, SpentFailed, LeasedSpent}
 use Rattle.vx_record.proofs.Attempted.{attempted_held}
-use Rattle.vx_record.proofs.Promises.{failed_counts}
+use Rattle.vx_record.proofs.Promises.{or_left, or_right, was_out, failed_counts}
 use Rattle.vx_record.proofs.Alike.{held_unspent, first_there, alike}
-
-or_left : (a b : Bool) → (a || b) ≡ false → a ≡ false
-or_left true b e = cc
-or_left false b e = refl
-
-or_right : (a b : Bool) → (a || b) ≡ false → b ≡ false
-or_right true b e = cc
-or_right false b e = e
 
 -- what owes nothing owes no spend
 pub spends_settled : (h : Record) (i : ℕ) → owes h i ≡ false → owes_spends_in h h i ≡ false
@@ -74,10 +66,6 @@ spent_on h e c some = let all = count-append c (all_of spends h) (spends e) in o
 not_decided : (t d : Bool) (c : ℕ) (copies : List ℕ) (ps : List (List ℕ)) → t ≡ false → 0 < count c (joined (if t && d then copies ∷ ps else ps)) → 0 < count c (joined ps)
 not_decided true d c copies ps e l = cc
 not_decided false d c copies ps e l = l
-
-was_out : (b c : Bool) → (if b then false else c) ≡ true → c ≡ true
-was_out true c e = cc
-was_out false c e = e
 
 -- so has one that is out and made no attempt yet
 pub untried_spent : (h : Record) (i c : ℕ) → IsLegal h → is_out h i ≡ true → list_any (is_attempt_of i) (since_lease h i) ≡ false → 0 < count c (joined (decided h i)) → 0 < times_spent h c
@@ -189,10 +177,7 @@ held_failed h i copies bytes answer c legal row here = out_retried h i c row.out
 
 -- FAILURES
 both_true : (a b c : Bool) → 0 < (if a && b && c then 1 else 0) → (b ≡ true) × (c ≡ true)
-both_true true true true l = (refl, refl)
-both_true true true false l = absurd (omega (arith, l))
-both_true true false c l = absurd (omega (arith, l))
-both_true false b c l = absurd (omega (arith, l))
+both_true a b c l = grind arith
 
 failed_answer : (answer : Reply) → is_failed answer ≡ true → answer ≡ reply.Failed
 failed_answer reply.Ok is = cc

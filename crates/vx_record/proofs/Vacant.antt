@@ -57,8 +57,12 @@ pub is_empty_of : (ps : List (List ℕ)) → ps ≡ [] → is_empty ps ≡ true
 is_empty_of ps e = ap (λ (qs : List (List ℕ)). is_empty qs) e
 
 -- an instance is itself
-self : (i : ℕ) → (i == i) ≡ true
+pub self : (i : ℕ) → (i == i) ≡ true
 self i = eq-eqb i i refl
+
+-- nothing stands at another name of an instance's place
+at_own : (place : ℕ → Place) (h : Record) (j i : ℕ) → (j == i) ≡ true → parcels_at (place i) (stands h) ≡ [] → parcels_at (place j) (stands h) ≡ []
+at_own place h j i here none = subst (λ (k : ℕ). parcels_at (place k) (stands h) ≡ []) (sym (eqb-true j i here)) none
 
 -- WHAT AN INSTANCE PUT OUT
 -- all that it put out went further
@@ -78,9 +82,7 @@ pub is_sent_of : (h : Record) (i : ℕ) → Sent h i → is_sent h i ≡ true
 is_sent_of h i sent = and_from (is_empty (outputs h i)) (is_empty (all_waiting h i)) (is_empty_of (outputs h i) sent.put_out) (none_where (is_child_of i) (stands h) child)
   where
     child : (p : Place) → is_child_of i p ≡ true → parcels_at p (stands h) ≡ []
-    child (Waiting j t) is =
-        let same : j ≡ i = eqb-true j i is in
-        subst (λ (k : ℕ). parcels_at (Waiting k t) (stands h) ≡ []) (sym same) (sent.waits t)
+    child (Waiting j t) is = at_own (λ k. Waiting k t) h j i is (sent.waits t)
     child p is = cc
 
 -- WHAT AN INSTANCE TOOK IN
@@ -101,9 +103,7 @@ pub unbuffered : (h : Record) (i : ℕ) → Unfilled h i → is_empty (buffered 
 unbuffered h i none = none_where (is_stage_of i) (stands h) stage
   where
     stage : (p : Place) → is_stage_of i p ≡ true → parcels_at p (stands h) ≡ []
-    stage (Contents j s) is =
-        let same : j ≡ i = eqb-true j i is in
-        subst (λ (k : ℕ). parcels_at (Contents k s) (stands h) ≡ []) (sym same) (none.buffer s)
+    stage (Contents j s) is = at_own (λ k. Contents k s) h j i is (none.buffer s)
     stage p is = cc
 
 -- nothing at all stands at it
@@ -111,10 +111,10 @@ pub bare_of : (h : Record) (i : ℕ) → Sent h i → Unfilled h i → is_bare h
 bare_of h i sent none = none_where (λ (p : Place). owner p == i) (stands h) mine
   where
     mine : (p : Place) → (owner p == i) ≡ true → parcels_at p (stands h) ≡ []
-    mine (Outputs j) is = let same : j ≡ i = eqb-true j i is in subst (λ (k : ℕ). parcels_at (Outputs k) (stands h) ≡ []) (sym same) sent.put_out
-    mine (Waiting j t) is = let same : j ≡ i = eqb-true j i is in subst (λ (k : ℕ). parcels_at (Waiting k t) (stands h) ≡ []) (sym same) (sent.waits t)
-    mine (Contents j s) is = let same : j ≡ i = eqb-true j i is in subst (λ (k : ℕ). parcels_at (Contents k s) (stands h) ≡ []) (sym same) (none.buffer s)
-    mine (Held j) is = let same : j ≡ i = eqb-true j i is in subst (λ (k : ℕ). parcels_at (Held k) (stands h) ≡ []) (sym same) none.holdings
+    mine (Outputs j) is = at_own Outputs h j i is sent.put_out
+    mine (Waiting j t) is = at_own (λ k. Waiting k t) h j i is (sent.waits t)
+    mine (Contents j s) is = at_own (λ k. Contents k s) h j i is (none.buffer s)
+    mine (Held j) is = at_own Held h j i is none.holdings
 
 -- and then it sent everything, and has nothing
 pub bare_sent : (h : Record) (i : ℕ) → is_bare h i ≡ true → Sent h i

@@ -60,10 +60,7 @@ all_spent h (d ∷ ds) e c l = go (times_spent h d == 0) refl (λ g m. all_spent
         ]
 
 third_fails : (a b c d : Bool) → (a || b || c || d) ≡ false → c ≡ false
-third_fails a b false d e = refl
-third_fails true b true d e = cc
-third_fails false true true d e = cc
-third_fails false false true d e = cc
+third_fails a b c d none = grind arith
 
 pub discards_go : DiscardsGo
 discards_go later earlier i worker now polls legal c l =

@@ -28,6 +28,7 @@ use Rattle.vx_record.proofs.OnePlace.{conserved}
 use Rattle.vx_record.proofs.Entries.{split_grows, split_stays}
 use Rattle.vx_record.proofs.Ceasing.{unmarked}
 use Rattle.vx_record.proofs.FirstPort.{open_routes, split_read}
+use Rattle.vx_record.proofs.Done.{worker_tests}
 use Rattle.vx_record.proofs.Vacant.{Sent, sent_empty, Unfilled, creates, empty_is, is_empty_of, sent_of, is_sent_of, sent_on, unfilled_of, unbuffered, unentered, unfilled_on, waits_still}
 use Rattle.vx_record.proofs.Drying.{dry_on}
 use Rattle.vx_record.proofs.Senders.{all_among, none_among, started_component_or, installs, same_component_or, uninstalled, wired_same, started_same, source_same, unput_source, other_sent, retired_sent}
@@ -53,41 +54,32 @@ pub undrained : (h : Record) (i : ℕ) → IsLegal h → source_at h i ≡ false
 undrained h i legal off = ap (λ (m : Bool). m || (source_at h i && false)) (unmarked h i legal) ∙ ap (λ (s : Bool). s && false) off
 
 pub dry_by : (d a : Bool) → d ≡ false → (d || a) ≡ true → a ≡ true
-dry_by true a off e = cc
-dry_by false a off e = e
+dry_by d a off e = grind arith
+
+three_parts : (a b c : Bool) → (a && b && c) ≡ true → (a ≡ true) × (b ≡ true) × (c ≡ true)
+three_parts a b c all = grind arith
 
 -- what the test says where it is done
 pub worker_done : (h : Record) (i : ℕ) → IsLegal h → source_at h i ≡ false → is_done h i ≡ true → WorkerDone h i
-worker_done h i legal off done = record {
-  worker = is;
-  dry = dry_by (drains h i) (all_dry h) (undrained h i legal off) ((and_parts w (drains h i || all_dry h) ((and_parts (w && (drains h i || all_dry h)) (not (is_named h i)) ending).0)).1);
-  unnamed = not-true (is_named h i) ((and_parts (w && (drains h i || all_dry h)) (not (is_named h i)) ending).1);
-  sent = sent_of h i ((and_parts (is_ending h i && is_empty (buffered h i)) (is_sent h i) ((and_parts (is_ending h i && is_empty (buffered h i) && is_sent h i) (is_empty (held h i)) all).0)).1);
-  empty = unfilled_of h i ((and_parts (is_ending h i) (is_empty (buffered h i)) two).1) ((and_parts (is_ending h i && is_empty (buffered h i) && is_sent h i) (is_empty (held h i)) all).1);
-}
-  where
-    w : Bool
-    w = component_or false (λ (c : Component). not (is_source c)) h i
-
-    all : is_worker_done h i ≡ true
-    all = ap (λ (b : Bool). if b then is_source_done h i else is_worker_done h i) (sym off) ∙ done
-
-    two : (is_ending h i && is_empty (buffered h i)) ≡ true
-    two = (and_parts (is_ending h i && is_empty (buffered h i)) (is_sent h i) ((and_parts (is_ending h i && is_empty (buffered h i) && is_sent h i) (is_empty (held h i)) all).0)).0
-
-    ending : is_ending h i ≡ true
-    ending = (and_parts (is_ending h i) (is_empty (buffered h i)) two).0
-
-    is : w ≡ true
-    is = (and_parts w (drains h i || all_dry h) ((and_parts (w && (drains h i || all_dry h)) (not (is_named h i)) ending).0)).0
+worker_done h i legal off done =
+    let tests = worker_tests h i off done in
+    let parts = three_parts (component_or false (λ (c : Component). not (is_source c)) h i) (drains h i || all_dry h) (not (is_named h i)) tests.ending in
+    record {
+      worker = parts.0;
+      dry = dry_by (drains h i) (all_dry h) (undrained h i legal off) parts.1;
+      unnamed = not-true (is_named h i) parts.2;
+      sent = sent_of h i tests.sent;
+      empty = unfilled_of h i tests.drained tests.emptied;
+    }
 
 -- and the other way round
+all_four : (a b c d : Bool) → a ≡ true → b ≡ true → c ≡ true → d ≡ true → (a && b && c && d) ≡ true
+all_four a b c d e f g k = rw (e, f, g, k) refl
+
 pub done_worker : (h : Record) (i : ℕ) → IsLegal h → WorkerDone h i → is_done h i ≡ true
 done_worker h i legal is =
     ap (λ (b : Bool). if b then is_source_done h i else is_worker_done h i) off
-    ∙ and_from (is_ending h i && is_empty (buffered h i) && is_sent h i) (is_empty (held h i))
-    (and_from (is_ending h i && is_empty (buffered h i)) (is_sent h i) (and_from (is_ending h i) (is_empty (buffered h i)) ending (unbuffered h i is.empty)) (is_sent_of h i is.sent))
-    (is_empty_of (held h i) is.empty.holdings)
+    ∙ all_four (is_ending h i) (is_empty (buffered h i)) (is_sent h i) (is_empty (held h i)) ending (unbuffered h i is.empty) (is_sent_of h i is.sent) (is_empty_of (held h i) is.empty.holdings)
   where
     off : source_at h i ≡ false
     off = worker_source h i is.worker

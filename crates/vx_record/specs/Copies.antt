@@ -56,6 +56,11 @@ abbrev pub all_of : {X : Type 0} → (Entry → List X) → Record → List X
 all_of f [] = []
 all_of f (e ∷ h) = all_of f h ++ f e
 
+-- a number of each entry of a record, together
+abbrev pub total : (Entry → ℕ) → Record → ℕ
+total f [] = 0
+total f (e ∷ h) = total f h + f e
+
 -- how often a copy was split
 abbrev pub times_split : Record → ℕ → ℕ
 times_split h c = count c (all_of splits h)

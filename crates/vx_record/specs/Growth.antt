@@ -124,15 +124,18 @@ abbrev pub passing_now : (Outcome → Bool) → (Place → Bool) → Record → 
 passing_now test here h c outcome =
     parcels_that (λ copies. (test outcome && begins_with c copies) && not (first_spent test h copies)) here h
 
+-- the parcels at some places that an entry makes pass
+abbrev pub first_in : (Outcome → Bool) → (Place → Bool) → Record → Entry → ℕ
+first_in test here h (Spent j c outcome) = passing_now test here h c outcome
+first_in test here h other = 0
+
 -- the parcels that an entry makes unread
 abbrev pub unread_in : Record → ℕ → Entry → ℕ
-unread_in h i (Spent j c outcome) = passing_now is_unread (is_output i) h c outcome
-unread_in h i other = 0
+unread_in h i e = first_in is_unread (is_output i) h e
 
 -- the parcels that an entry makes dropped as newest
 abbrev pub newest_in : Record → ℕ → Entry → ℕ
-newest_in h i (Spent j c outcome) = passing_now is_newest (is_child_for i) h c outcome
-newest_in h i other = 0
+newest_in h i e = first_in is_newest (is_child_for i) h e
 
 -- the parcels that a sink held whose first copy an entry spends with a status
 abbrev pub spent_in : EventStatus → Record → ℕ → Entry → ℕ

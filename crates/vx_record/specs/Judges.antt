@@ -2,7 +2,7 @@
 use Rattle.std.specs.Prelude.{ℕ, ◌<◌, ◌≡◌, ◌≢◌, Bool, true, false, ◌&&◌, List, [], map, reverse}
 use Rattle.vx_plan.specs.declared.component.Component.{Component}
 use Rattle.vx_plan.specs.declared.settings.Settings.{Settings}
-use Rattle.vx_plan.specs.declared.settings.Settings.TheVariants.{Stdin, FileIn, DemoLogs, Filter, Route, Sample, Dedupe, Reduce, Host, Console, FileOut, Blackhole}
+use Rattle.vx_plan.specs.declared.settings.Settings.TheVariants.{Filter, Route, Sample, Dedupe}
 use Rattle.vx_plan.specs.Components.{is_transform}
 use Rattle.vx_record.specs.Records.{Record}
 use Rattle.vx_record.specs.Copies.{count, joined}
@@ -19,18 +19,11 @@ use Rattle.vx_record.specs.Legal.{IsLegal}
 
 -- whether a component of these settings judges event by event
 abbrev pub is_judging : Settings → Bool
-is_judging (Stdin max_length codec) = false
-is_judging (FileIn most path from codec) = false
-is_judging (DemoLogs demo interval) = false
 is_judging (Filter condition) = true
 is_judging (Route routes reroute) = true
 is_judging (Sample rate exclude) = true
 is_judging (Dedupe fields most) = true
-is_judging (Reduce group_by starts_when ends_when expire flush strategies) = false
-is_judging Host = false
-is_judging (Console target codec sink) = false
-is_judging (FileOut path compression codec sink) = false
-is_judging (Blackhole seconds sink) = false
+is_judging other = false
 
 -- whether the instance is a transform that does
 abbrev pub judge_at : Record → ℕ → Bool

@@ -39,12 +39,20 @@ use Rattle.vx_record.specs.Moving.{IsConserved}
 use Rattle.vx_record.specs.Accounting.{IsAccounted}
 use Rattle.vx_record.specs.Legal.{IsLegal, IsClosed}
 
--- Each copy that a record made by then was split once, or was spent once, or stands in one place, once: exactly one
--- of the three. The part `earlier` of a record is what stood there before the entries `later`.
-abbrev pub OnePlace : Type 0
-OnePlace =
-    (later earlier : Record) → IsLegal (later ++ earlier) → (c : ℕ) → c < next_copy earlier →
+-- In the records of a kind, each copy that a record made by then was split once, or was spent once, or stands in one place,
+-- once: exactly one of the three. The part `earlier` of a record is what stood there before the entries `later`.
+abbrev pub CopiesOnce : (Record → Type 0) → Type 0
+CopiesOnce Is =
+    (later earlier : Record) → Is (later ++ earlier) → (c : ℕ) → c < next_copy earlier →
     times_split earlier c + times_spent earlier c + length (places earlier c) ≡ 1
+
+-- a copy is live exactly where it stands in a place
+abbrev pub LiveStandsIn : (Record → Type 0) → Type 0
+LiveStandsIn Is = (h : Record) → Is h → (c : ℕ) → IsLive h c ↔ (0 < length (places h c))
+
+-- each copy is so in every legal record
+abbrev pub OnePlace : Type 0
+OnePlace = CopiesOnce IsLegal
 
 -- a legal record conserves copies
 abbrev pub LegalConserved : Type 0
@@ -52,13 +60,11 @@ LegalConserved = (h : Record) → IsLegal h → IsConserved h
 
 -- each copy is in one place in every record that conserves copies, legal or not
 abbrev pub ConservedPlace : Type 0
-ConservedPlace =
-    (later earlier : Record) → IsConserved (later ++ earlier) → (c : ℕ) → c < next_copy earlier →
-    times_split earlier c + times_spent earlier c + length (places earlier c) ≡ 1
+ConservedPlace = CopiesOnce IsConserved
 
 -- and is live exactly where it stands in a place
 abbrev pub ConservedLive : Type 0
-ConservedLive = (h : Record) → IsConserved h → (c : ℕ) → IsLive h c ↔ (0 < length (places h c))
+ConservedLive = LiveStandsIn IsConserved
 
 -- how often a batch was noticed
 abbrev pub times_noticed : Record → ℕ → ℕ
@@ -66,25 +72,42 @@ times_noticed [] b = 0
 times_noticed (Notice b' status ∷ h) b = (if b' == b then 1 else 0) + times_noticed h b
 times_noticed (e ∷ h) b = times_noticed h b
 
--- each batch of which no copy is live has exactly one Notice, unless the record ends where that Notice is due
+-- in each record of a kind, each batch of which no copy is live has exactly one Notice, unless the record ends where that Notice is due
+abbrev pub NoticesOnce : (Record → Type 0) → Type 0
+NoticesOnce Is =
+    (h : Record) → Is h → (b : ℕ) → 0 < count b (batches h) → has_live h b ≡ false → awaits_notice h b ≡ false → times_noticed h b ≡ 1
+
+-- none comes while a copy of the batch is live
+abbrev pub NoticesLate : (Record → Type 0) → Type 0
+NoticesLate Is = (h : Record) → Is h → (b c : ℕ) → batch_of h c ≡ b → IsLive h c → times_noticed h b ≡ 0
+
+-- a Notice stands where the last live copy was just spent, and has the status that the tables fold
+abbrev pub NoticesSo : (Record → Type 0) → Type 0
+NoticesSo Is =
+    (later earlier : Record) (b : ℕ) (status : BatchStatus) → Is (later ++ Notice b status ∷ earlier) →
+    (awaits_notice earlier b ≡ true) × (status ≡ batch_status earlier b)
+
+-- and says Delivered exactly where each outcome of the batch in the whole record, also behind it, is good
+abbrev pub NoticesReport : (Record → Type 0) → Type 0
+NoticesReport Is =
+    (later earlier : Record) (b : ℕ) (status : BatchStatus) → Is (later ++ Notice b status ∷ earlier) →
+    (status ≡ Delivered) ↔ AllGood (later ++ Notice b status ∷ earlier) b
+
+-- so it is in each legal record: each batch whose copies are gone has one Notice
 abbrev pub OneNotice : Type 0
-OneNotice =
-    (h : Record) → IsLegal h → (b : ℕ) → 0 < count b (batches h) → has_live h b ≡ false → awaits_notice h b ≡ false → times_noticed h b ≡ 1
+OneNotice = NoticesOnce IsLegal
 
 -- and none before
 abbrev pub NoEarlyNotice : Type 0
-NoEarlyNotice =
-    (h : Record) → IsLegal h → (b c : ℕ) → batch_of h c ≡ b → IsLive h c → times_noticed h b ≡ 0
+NoEarlyNotice = NoticesLate IsLegal
 
 -- so where nothing is left to do, each batch has exactly one
 abbrev pub OneNoticeAtLast : Type 0
 OneNoticeAtLast = (h : Record) → IsLegal h → IsClosed h → (b : ℕ) → 0 < count b (batches h) → times_noticed h b ≡ 1
 
--- a Notice stands where the last live copy was just spent, and has the status that the tables fold
+-- a Notice comes at once, with the status of the tables
 abbrev pub NoticeAtOnce : Type 0
-NoticeAtOnce =
-    (later earlier : Record) (b : ℕ) (status : BatchStatus) → IsLegal (later ++ Notice b status ∷ earlier) →
-    (awaits_notice earlier b ≡ true) × (status ≡ batch_status earlier b)
+NoticeAtOnce = NoticesSo IsLegal
 
 -- no copy of a batch is spent behind its Notice
 abbrev pub NoSpentAfterNotice : Type 0
@@ -92,38 +115,26 @@ NoSpentAfterNotice =
     (later earlier : Record) (i c : ℕ) (outcome : Outcome) → IsLegal (later ++ Spent i c outcome ∷ earlier) →
     times_noticed earlier (batch_of earlier c) ≡ 0
 
--- a Notice says Delivered exactly where each outcome of the batch in the whole record, also behind it, is good
+-- and tells what became of its batch
 abbrev pub NoticeReports : Type 0
-NoticeReports =
-    (later earlier : Record) (b : ℕ) (status : BatchStatus) → IsLegal (later ++ Notice b status ∷ earlier) →
-    (status ≡ Delivered) ↔ AllGood (later ++ Notice b status ∷ earlier) b
+NoticeReports = NoticesReport IsLegal
 
 -- a legal record gives each batch its notice
 abbrev pub LegalAccounted : Type 0
 LegalAccounted = (h : Record) → IsLegal h → IsAccounted h
 
--- the same laws of every record that does, legal or not: each batch of which no copy is live has exactly one Notice,
--- unless the record ends where that Notice is due
+-- the same laws of every record that does, legal or not
 abbrev pub AccountedOnce : Type 0
-AccountedOnce =
-    (h : Record) → IsAccounted h → (b : ℕ) → 0 < count b (batches h) → has_live h b ≡ false → awaits_notice h b ≡ false → times_noticed h b ≡ 1
+AccountedOnce = NoticesOnce IsAccounted
 
--- none comes before
 abbrev pub AccountedLate : Type 0
-AccountedLate =
-    (h : Record) → IsAccounted h → (b c : ℕ) → batch_of h c ≡ b → IsLive h c → times_noticed h b ≡ 0
+AccountedLate = NoticesLate IsAccounted
 
--- and each has the status that the tables fold
 abbrev pub AccountedSo : Type 0
-AccountedSo =
-    (later earlier : Record) (b : ℕ) (status : BatchStatus) → IsAccounted (later ++ Notice b status ∷ earlier) →
-    (awaits_notice earlier b ≡ true) × (status ≡ batch_status earlier b)
+AccountedSo = NoticesSo IsAccounted
 
--- and says Delivered exactly where each outcome of the batch in the whole record, also behind it, is good
 abbrev pub AccountedReports : Type 0
-AccountedReports =
-    (later earlier : Record) (b : ℕ) (status : BatchStatus) → IsAccounted (later ++ Notice b status ∷ earlier) →
-    (status ≡ Delivered) ↔ AllGood (later ++ Notice b status ∷ earlier) b
+AccountedReports = NoticesReport IsAccounted
 
 -- what stood there before some entries of a legal record is legal
 abbrev pub BeginningLegal : Type 0
@@ -139,7 +150,7 @@ PlacesMeant = (h : Record) (c : ℕ) (p : Place) → count c (joined (parcels_at
 
 -- a copy is live exactly where it stands in a place
 abbrev pub LiveStands : Type 0
-LiveStands = (h : Record) → IsLegal h → (c : ℕ) → IsLive h c ↔ (0 < length (places h c))
+LiveStands = LiveStandsIn IsLegal
 
 -- a batch is delivered exactly where the outcome of each of its spent copies is good
 abbrev pub DeliveredWhereGood : Type 0

@@ -3,7 +3,7 @@ use Rattle.std.specs.Prelude.{ℕ, ◌≡◌, ◌≤◌, ◌==◌, if◌then◌e
 use Rattle.vx_record.specs.declared.child.Child.{Child}
 use Rattle.vx_record.specs.declared.output.Output.{Output}
 use Rattle.vx_record.specs.declared.entry.Entry.{Entry}
-use Rattle.vx_record.specs.declared.entry.Entry.TheVariants.{Install, Lease, Home, Read, Idle, SourceLost, Born, Split, Push, Take, Tick, Answer, Attempt, Spent, Notice, Confirm, Closed, Retired, Abandon}
+use Rattle.vx_record.specs.declared.entry.Entry.TheVariants.{Born, Split, Push, Take, Answer, Spent}
 use Rattle.vx_record.specs.Records.{Record}
 use Rattle.vx_record.specs.Copies.{count, joined, counting, children_of, next_copy, IsLive}
 use Rattle.vx_record.specs.Places.{put_out}
@@ -37,47 +37,23 @@ Releases h i outputs = (c : ℕ) → count c (put_out outputs) ≤ count c (join
 -- what an entry needs that makes, moves or spends copies: new ones have the next numbers, a parcel that moves is the
 -- oldest where it stands, what a transform puts out it held, and what is spent is live
 abbrev pub Conserves : Record → Entry → Type 0
-Conserves h (Install version plan once instances now) = Unit {0}
-Conserves h (Lease i worker now polls) = Unit {0}
-Conserves h (Home i) = Unit {0}
-Conserves h (Read i stream took) = Unit {0}
-Conserves h (Idle i failed) = Unit {0}
-Conserves h (SourceLost i at failed) = Unit {0}
 Conserves h (Born i b place copies events waits stream end) = copies ≡ counting (next_copy h) (length copies)
 Conserves h (Split i ports copies event children) = Divides h i copies children
 Conserves h (Push i t s copies) = IsOldest copies (waiting h i t)
 Conserves h (Take i s copies) = IsOldest copies (contents h i s)
-Conserves h (Tick i now) = Unit {0}
 Conserves h (Answer i made discarded kept) = Releases h i made
-Conserves h (Attempt i copies bytes reply) = Unit {0}
 Conserves h (Spent i c outcome) = IsLive h c
-Conserves h (Notice b status) = Unit {0}
-Conserves h (Confirm i positions made) = Unit {0}
-Conserves h (Closed i) = Unit {0}
-Conserves h (Retired i) = Unit {0}
-Conserves h (Abandon cause) = Unit {0}
+Conserves h other = Unit {0}
 
 -- an entry that makes, moves and spends nothing
 abbrev pub IsStill : Entry → Type 0
-IsStill (Install version plan once instances now) = Unit {0}
-IsStill (Lease i worker now polls) = Unit {0}
-IsStill (Home i) = Unit {0}
-IsStill (Read i stream took) = Unit {0}
-IsStill (Idle i failed) = Unit {0}
-IsStill (SourceLost i at failed) = Unit {0}
 IsStill (Born i b place copies events waits stream end) = ⊥
 IsStill (Split i ports copies event children) = ⊥
 IsStill (Push i t s copies) = ⊥
 IsStill (Take i s copies) = ⊥
-IsStill (Tick i now) = Unit {0}
 IsStill (Answer i made discarded kept) = ⊥
-IsStill (Attempt i copies bytes reply) = Unit {0}
 IsStill (Spent i c outcome) = ⊥
-IsStill (Notice b status) = Unit {0}
-IsStill (Confirm i positions made) = Unit {0}
-IsStill (Closed i) = Unit {0}
-IsStill (Retired i) = Unit {0}
-IsStill (Abandon cause) = Unit {0}
+IsStill other = Unit {0}
 
 -- each entry conserves what stood before it
 abbrev pub IsConserved : Record → Type 0

@@ -1,10 +1,11 @@
 -- How often an instance's port failed, refused, had nothing, finished an attempt or took a confirm, by the record.
-use Rattle.std.specs.Prelude.{ℕ, ◌+◌, Bool, true, false, not, ◌&&◌, [], ◌∷◌, ◌==◌, if◌then◌else◌}
+use Rattle.std.specs.Prelude.{ℕ, Bool, true, false, not, ◌&&◌, ◌==◌, if◌then◌else◌}
 use Rattle.vx_ends.specs.declared.trouble.Reply.{Reply}
 use Rattle.vx_ends.specs.declared.trouble.Reply.TheVariants as reply
 use Rattle.vx_record.specs.declared.entry.Entry.{Entry}
 use Rattle.vx_record.specs.declared.entry.Entry.TheVariants.{Idle, SourceLost, Attempt, Confirm}
 use Rattle.vx_record.specs.Records.{Record}
+use Rattle.vx_record.specs.Copies.{total}
 use Rattle.vx_record.specs.SinkBatches.{is_failed}
 
 -- whether a device refused what it was given
@@ -49,21 +50,16 @@ confirms_in i other = 0
 
 -- how often so in a record
 abbrev pub fault_count : Record → ℕ → ℕ
-fault_count [] i = 0
-fault_count (e ∷ h) i = fault_count h i + faults_in i e
+fault_count h i = total (faults_in i) h
 
 abbrev pub refusal_count : Record → ℕ → ℕ
-refusal_count [] i = 0
-refusal_count (e ∷ h) i = refusal_count h i + refusals_in i e
+refusal_count h i = total (refusals_in i) h
 
 abbrev pub idle_count : Record → ℕ → ℕ
-idle_count [] i = 0
-idle_count (e ∷ h) i = idle_count h i + idles_in i e
+idle_count h i = total (idles_in i) h
 
 abbrev pub finish_count : Record → ℕ → ℕ
-finish_count [] i = 0
-finish_count (e ∷ h) i = finish_count h i + finishes_in i e
+finish_count h i = total (finishes_in i) h
 
 abbrev pub confirm_count : Record → ℕ → ℕ
-confirm_count [] i = 0
-confirm_count (e ∷ h) i = confirm_count h i + confirms_in i e
+confirm_count h i = total (confirms_in i) h
