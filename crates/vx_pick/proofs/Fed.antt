@@ -1,6 +1,5 @@
 -- What is fed of values in order, one more at a time.
 use Rattle.std.proofs.Common.{◌≡◌, ℕ, ◌+◌, ◌<◌, List, [], ◌∷◌, ◌++◌, map, take, length, get_or, fold, refl, sym, ◌∙◌, ap, append_assoc, append-nil}
-use Rattle.std.proofs.lemmas.List.{map-append, take_more}
 use Rattle.std.proofs.lemmas.List.Sums.{fold-append}
 use Rattle.std.specs.Hash as fed
 use Rattle.std.specs.Hash.{HashWrites}
@@ -9,6 +8,7 @@ use Rattle.vx_value.specs.Values.{datum_of, named_datum}
 use Rattle.vx_value.specs.declared.value.Value.{Value}
 use Rattle.vx_value.specs.declared.field.Field.{Field}
 use Rattle.vx_pick.specs.Hashing.{datum_fed, data_fed, named_fed}
+use Rattle.vx_pick.proofs.Kept.{up_to}
 
 data_fed-append : (ds es : List Datum) → data_fed (data_of (ds ++ es)) ≡ data_fed (data_of ds) ++ data_fed (data_of es)
 data_fed-append [] es = refl
@@ -31,14 +31,9 @@ module _ {S : Type 0} (write : S → List ℕ → S) (before : S) where
       ∙ sym (fold-append write before (data_fed (data_of (map datum_of (take i items)))) (datum_fed (datum_of x)))
       ∙ ap (λ (w : HashWrites). fold write before w) (sym whole)
     where
-      there : map datum_of (take (i + 1) items) ≡ map datum_of (take i items) ++ datum_of x ∷ []
-      there =
-          ap (λ (vs : List Value). map datum_of vs) (take_more items i x below) ∙ map-append datum_of (take i items) (get_or items i x ∷ [])
-          ∙ ap (λ (y : Value). map datum_of (take i items) ++ datum_of y ∷ []) (sym is)
-
       whole : data_fed (data_of (map datum_of (take (i + 1) items))) ≡ data_fed (data_of (map datum_of (take i items))) ++ datum_fed (datum_of x)
       whole =
-          ap (λ (ds : List Datum). data_fed (data_of ds)) there ∙ data_fed-append (map datum_of (take i items)) (datum_of x ∷ [])
+          ap (λ (ds : List Datum). data_fed (data_of ds)) (up_to datum_of items i x below is) ∙ data_fed-append (map datum_of (take i items)) (datum_of x ∷ [])
           ∙ ap (λ (w : HashWrites). data_fed (data_of (map datum_of (take i items))) ++ w) (append-nil (datum_fed (datum_of x)))
 
   -- a field more
@@ -52,12 +47,7 @@ module _ {S : Type 0} (write : S → List ℕ → S) (before : S) where
       ∙ sym (fold-append write before (named_fed (named_of (map named_datum (take i items)))) (fed.str x.name ++ datum_fed (datum_of x.value)))
       ∙ ap (λ (w : HashWrites). fold write before w) (sym whole)
     where
-      there : map named_datum (take (i + 1) items) ≡ map named_datum (take i items) ++ named_datum x ∷ []
-      there =
-          ap (λ (fs : List Field). map named_datum fs) (take_more items i x below) ∙ map-append named_datum (take i items) (get_or items i x ∷ [])
-          ∙ ap (λ (y : Field). map named_datum (take i items) ++ named_datum y ∷ []) (sym is)
-
       whole : named_fed (named_of (map named_datum (take (i + 1) items))) ≡ named_fed (named_of (map named_datum (take i items))) ++ (fed.str x.name ++ datum_fed (datum_of x.value))
       whole =
-          ap (λ (fs : List NamedDatum). named_fed (named_of fs)) there ∙ named_fed-append (map named_datum (take i items)) (named_datum x ∷ [])
+          ap (λ (fs : List NamedDatum). named_fed (named_of fs)) (up_to named_datum items i x below is) ∙ named_fed-append (map named_datum (take i items)) (named_datum x ∷ [])
           ∙ ap (λ (w : HashWrites). named_fed (named_of (map named_datum (take i items))) ++ w) (append-nil (fed.str x.name ++ datum_fed (datum_of x.value)))

@@ -41,13 +41,12 @@ rising_below (g ∷ h ∷ front) f rise =
     let here = and_parts (text_lt h.name f.name) (all_below front f.name) on in
     and_from (text_lt g.name f.name) (all_below (h ∷ front) f.name) (text_lt-trans g.name h.name f.name both.0 here.0) on
 
--- the fields up to one are those before it and that one
-up_to : (items : List Field) (i : ℕ) (x : Field) → i < length items → x ≡ get_or items i x →
-    map named_datum (take (i + 1) items) ≡ map named_datum (take i items) ++ named_datum x ∷ []
-up_to items i x below is =
-    ap (λ (fs : List Field). map named_datum fs) (take_more items i x below)
-    ∙ map-append named_datum (take i items) (get_or items i x ∷ [])
-    ∙ ap (λ (y : Field). map named_datum (take i items) ++ named_datum y ∷ []) (sym is)
+-- what is made of the items up to one is what is made of those before it and of that one
+pub up_to : {X Y : Type 0} (f : X → Y) (items : List X) (i : ℕ) (x : X) → i < length items → x ≡ get_or items i x →
+    map f (take (i + 1) items) ≡ map f (take i items) ++ f x ∷ []
+up_to {X = X} f items i x below is =
+    ap (λ (xs : List X). map f xs) (take_more items i x below) ∙ map-append f (take i items) (get_or items i x ∷ [])
+    ∙ ap (λ (y : X). map f (take i items) ++ f y ∷ []) (sym is)
 
 -- so a field may be added to those that are kept of the fields before it
 pub last_kept : (p : NamedDatum → Bool) (items : List Field) (i : ℕ) (x : Field) → i < length items → x ≡ get_or items i x →
@@ -61,14 +60,14 @@ last_kept p items i x below is rise =
 
     risen : names_rise (map named_datum (take i items) ++ named_datum x ∷ []) ≡ true
     risen =
-        ap names_rise (sym (up_to items i x below is))
+        ap names_rise (sym (up_to named_datum items i x below is))
         ∙ names_rise-front (map named_datum (take (i + 1) items)) (map named_datum (drop (i + 1) items)) (ap names_rise whole ∙ rise)
 
 -- those that are kept of one field more
 pub kept_more : (p : NamedDatum → Bool) (items : List Field) (i : ℕ) (x : Field) → i < length items → x ≡ get_or items i x →
     filter p (map named_datum (take (i + 1) items)) ≡ filter p (map named_datum (take i items)) ++ cond (p (named_datum x)) (named_datum x ∷ []) []
 kept_more p items i x below is =
-    ap (λ (fs : List NamedDatum). filter p fs) (up_to items i x below is)
+    ap (λ (fs : List NamedDatum). filter p fs) (up_to named_datum items i x below is)
     ∙ filter-append p (map named_datum (take i items)) (named_datum x ∷ [])
 
 -- what is mapped twice is mapped once by both

@@ -1,4 +1,4 @@
--- What a deduper keeps once one more event came, and what it says of that event.
+-- What a deduper keeps once one more event came, what it says of that event, and what it makes of its parcel.
 use Rattle.std.proofs.Common.{◌≡◌, ℕ, Bool, true, false, not, cond, List, [], ◌∷◌, ◌++◌, map, take, refl, sym, ◌∙◌, ap}
 use Rattle.std.specs.Prelude.{reverse, ◌||◌, if◌then◌else◌}
 use Rattle.std.specs.List.{list_any}
@@ -6,9 +6,13 @@ use Rattle.std.proofs.lemmas.List.{reverse-append, take-map}
 use Rattle.vx_value.specs.Datum.{Datum}
 use Rattle.vx_value.specs.declared.event.Event.{Event}
 use Rattle.vx_condition.specs.Picking.{Key, same_key, distinct, dedupe_key, latest_keys, dedupe_passes}
+use Rattle.vx_ledger.specs.declared.parcel.Parcel.{Parcel}
+use Rattle.vx_transform.specs.Shelves.{Shelved}
 use Rattle.vx_record.specs.Transforms.{passing}
+use Rattle.vx_pick.specs.Answers.{answered_on}
 use Rattle.vx_pick.specs.Keys.{key_datum}
 use Rattle.vx_pick.specs.Dedupers.{Deduper, same_datum, without, remembering, HasSeen}
+use Rattle.vx_pick.specs.Judged.{Deduped, Settled}
 use Rattle.vx_pick.proofs.Latest.{without_first, one_more}
 use Rattle.vx_pick.proofs.SameKeys.{same_as, once}
 
@@ -37,11 +41,16 @@ remembered most k ls =
     by true = ap (λ (rest : List Datum). key_datum k ∷ rest) (without_there k ls)
     by false = take-map key_datum most (k ∷ ls)
 
--- once one more event came, the keys are those of the events with that one
-pub seen_more : (old new : Deduper) (earlier : List Event) (e : Event) → new.by ≡ old.by → new.most ≡ old.most →
-    new.keys ≡ remembering old.most (key_datum (dedupe_key old.by e)) old.keys → HasSeen old earlier → HasSeen new (earlier ++ e ∷ [])
-seen_more old new earlier e by most keys seen =
-    keys ∙ ap (λ (ds : List Datum). remembering old.most (key_datum (dedupe_key old.by e)) ds) seen
+-- a key by what tells repeats apart inside a deduper is one by what does as contracts see it
+pub key_seen : (inside old : Deduper) (read e : Event) (key : Datum) → key ≡ key_datum (dedupe_key inside.by read) → inside ≡ old → read ≡ e →
+    key ≡ key_datum (dedupe_key old.by e)
+key_seen inside old read e key is same one = is ∙ (λ i. key_datum (dedupe_key (same i).by (one i)))
+
+-- once one more event came, by its key, the keys are those of the events with that one
+pub seen_more : (old new : Deduper) (earlier : List Event) (e : Event) (key : Datum) → key ≡ key_datum (dedupe_key old.by e) →
+    new.by ≡ old.by → new.most ≡ old.most → new.keys ≡ remembering old.most key old.keys → HasSeen old earlier → HasSeen new (earlier ++ e ∷ [])
+seen_more old new earlier e key is by most keys seen =
+    keys ∙ (λ i. remembering old.most (is i) (seen i))
     ∙ remembered old.most (dedupe_key old.by e) (latest_keys old.most (dedupe_key old.by) earlier)
     ∙ ap (λ (ks : List Key). map key_datum ks)
     (one_more same_key (dedupe_key old.by e) old.most (distinct (map (dedupe_key old.by) (reverse earlier))) (once (dedupe_key old.by e) (map (dedupe_key old.by) (reverse earlier))))
@@ -49,10 +58,21 @@ seen_more old new earlier e by most keys seen =
     ∙ sym (λ i. map key_datum (latest_keys (most i) (dedupe_key (by i)) (earlier ++ e ∷ [])))
 
 -- an event passes where its key isn't kept
-pub seen_passes : (d : Deduper) (earlier : List Event) (e : Event) (repeats : Bool) → HasSeen d earlier →
-    list_any (same_datum (key_datum (dedupe_key d.by e))) d.keys ≡ repeats →
-    passing (dedupe_passes d.most d.by) earlier e ≡ (if not repeats then 0 ∷ [] else [])
-seen_passes d earlier e repeats seen is =
+pub seen_passes : (d : Deduper) (earlier : List Event) (e : Event) (key : Datum) (repeats : Bool) → key ≡ key_datum (dedupe_key d.by e) →
+    HasSeen d earlier → list_any (same_datum key) d.keys ≡ repeats → passing (dedupe_passes d.most d.by) earlier e ≡ (if not repeats then 0 ∷ [] else [])
+seen_passes d earlier e key repeats is seen said =
     ap (λ (b : Bool). if not b then 0 ∷ [] else [])
     (sym (any_there (dedupe_key d.by e) (latest_keys d.most (dedupe_key d.by) earlier))
-    ∙ ap (λ (ds : List Datum). list_any (same_datum (key_datum (dedupe_key d.by e))) ds) (sym seen) ∙ is)
+    ∙ sym (λ i. list_any (same_datum (is i)) (seen i)) ∙ said)
+
+-- so what is made of a parcel by the key of its event is what a deduper makes of it
+pub settled_answers : (parcel : Parcel) (before behind : Shelved) (old new : Deduper) (key : Datum) (repeats : Bool) →
+    key ≡ key_datum (dedupe_key old.by parcel.event) → list_any (same_datum key) old.keys ≡ repeats →
+    Settled parcel before behind old new key (if not repeats then 0 ∷ [] else []) → Deduped parcel before behind old new
+settled_answers parcel before behind old new key repeats is said settled = record {
+  answered = λ earlier seen.
+      settled.answered ∙ ap (λ (ports : List ℕ). answered_on ports before parcel) (sym (seen_passes old earlier parcel.event key repeats is seen said));
+  seen = λ earlier seen. seen_more old new earlier parcel.event key is settled.by settled.most settled.keys seen;
+  by = settled.by;
+  most = settled.most;
+}

@@ -5,4 +5,5 @@ pub mod Keys
 pub mod Hashing
 pub mod Alike
 pub mod Dedupers
+pub mod Judged
 pub mod Picks

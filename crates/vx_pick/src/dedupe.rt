@@ -1,13 +1,13 @@
-ghost use Rattle.std.specs.Prelude.{◌≡◌, ◌<◌, ◌≤◌, ◌^◌, ◌↔◌, ℕ, Option, None, List, [], ◌∷◌, ◌++◌, true, false, OnOk, OnErr, IfOk, IfErr, IsOk};
+ghost use Rattle.std.specs.Prelude.{◌≡◌, ◌<◌, ◌≤◌, ◌^◌, List, [], ◌∷◌, ◌++◌, true, false, OnOk, OnErr, IfOk, IfErr};
 ghost use Rattle.std.specs.List.{list_any};
 ghost use Rattle.vx_value.specs.declared.event.Event.{Event};
 ghost use Rattle.vx_condition.specs.Picking.{dedupe_passes};
 ghost use Rattle.vx_record.specs.Transforms.{passing, port_bits};
 ghost use Rattle.vx_transform.specs.Moves.{Moves};
-ghost use Rattle.vx_pick.specs.Answers.{answered_on};
 ghost use Rattle.vx_pick.specs.Dedupers.{same_datum, remembering, HasSeen};
+ghost use Rattle.vx_pick.specs.Judged.{Settled};
 
-use crate::answer::answer;
+use crate::answer::{answer, bits_for};
 use crate::dedupe_key::DedupeKey;
 use crate::seen_keys::{SeenKeys, add, trim};
 use lru::LruCache;
@@ -15,12 +15,9 @@ use std::alloc::Global;
 use std::marker::Model;
 use std::num::NonZeroUsize;
 use vx_condition::DedupeFields;
-use vx_ledger::{Finalizer, Parcel};
-use vx_transform::{Back, Shelf, Transform};
+use vx_ledger::Parcel;
+use vx_transform::{Back, Immediate, Shelf};
 use vx_value::{Event, WantOfMemory};
-
-// The bit of the one port.
-const PASSED: u128 = 1;
 
 /// Discards each event whose key is among those that earlier events had last, and passes the others. A repeat counts as the
 /// latest event of its key.
@@ -83,7 +80,7 @@ impl Dedupe {
     {
         let key = DedupeKey::of(alloc, &self.fields, event)?;
         let repeats = self.remember(key)?;
-        Ok(if repeats { 0 } else { PASSED })
+        Ok(bits_for(!repeats))
     }
 
     // Takes a key in as the latest, and says whether it was there. For want of memory all is as before.
@@ -113,16 +110,14 @@ impl Dedupe {
     // Discards the parcel of an event with a key that is kept. For want of memory all is as before.
     fn discard(&mut self, key: DedupeKey, parcel: Parcel, shelf: &mut Shelf) -> Result<(), Back>
         requires { list_any (same_datum key) self.old.keys ≡ true }
-        ensures answered { OnOk result (shelf.new ≡ answered_on [] shelf.old parcel) }
+        ensures settled { OnOk result
+            (Settled parcel shelf.old shelf.new self.old self.new key []) }
         ensures moves { OnOk result (Moves 1 parcel.finalizers [] shelf.old shelf.new) }
-        ensures keys { OnOk result (self.new.keys ≡ remembering self.old.most key self.old.keys) }
-        ensures by { self.new.by ≡ self.old.by }
-        ensures most { self.new.most ≡ self.old.most }
         ensures same { OnErr result (self.new ≡ self.old) }
         ensures back { IfErr result (λ refused. refused.parcel ≡ parcel) }
         ensures shelf { OnErr result (shelf.new ≡ shelf.old) }
     {
-        match answer(shelf, 0, parcel) {
+        match answer(shelf, bits_for(false), parcel) {
             Ok(()) => {
                 self.seen.promote(&key);
                 Ok(())
@@ -134,11 +129,9 @@ impl Dedupe {
     // Passes the parcel of an event with a key that isn't kept. For want of memory all is as before.
     fn pass(&mut self, key: DedupeKey, parcel: Parcel, shelf: &mut Shelf) -> Result<(), Back>
         requires { list_any (same_datum key) self.old.keys ≡ false }
-        ensures answered { OnOk result (shelf.new ≡ answered_on (0 ∷ []) shelf.old parcel) }
+        ensures settled { OnOk result
+            (Settled parcel shelf.old shelf.new self.old self.new key (0 ∷ [])) }
         ensures moves { OnOk result (Moves 1 parcel.finalizers [] shelf.old shelf.new) }
-        ensures keys { OnOk result (self.new.keys ≡ remembering self.old.most key self.old.keys) }
-        ensures by { self.new.by ≡ self.old.by }
-        ensures most { self.new.most ≡ self.old.most }
         ensures same { OnErr result (self.new ≡ self.old) }
         ensures back { IfErr result (λ refused. refused.parcel ≡ parcel) }
         ensures shelf { OnErr result (shelf.new ≡ shelf.old) }
@@ -147,7 +140,7 @@ impl Dedupe {
             Ok(()) => {}
             Err(WantOfMemory) => return Err(Back { parcel }),
         }
-        match answer(shelf, PASSED, parcel) {
+        match answer(shelf, bits_for(true), parcel) {
             Ok(()) => {
                 trim(&mut self.seen, self.most);
                 Ok(())
@@ -160,41 +153,19 @@ impl Dedupe {
     }
 }
 
-impl Transform for Dedupe {
-    ghost port_count = { λ _. 1 };
+impl Immediate for Dedupe {
+    ghost use Rattle.vx_pick.specs.Judged.{Deduped};
 
-    ghost held = { λ _. [] };
+    ghost width = { λ _. 1 };
 
-    ghost due_at = { λ _. None };
+    ghost answers = { Deduped };
 
-    fn ports(&self) -> u32 {
+    fn width(&self) -> u32 {
         1
     }
 
     /// Discards the parcel where the key of its event is among those that are kept, and puts it out on port 0 elsewhere.
-    fn apply(
-        &mut self,
-        alloc: Global,
-        parcel: Parcel,
-        _now: u64,
-        shelf: &mut Shelf,
-    ) -> Result<(), Back>
-        ensures answered { OnOk result
-            ((earlier : List Event) → HasSeen self.old earlier →
-            shelf.new
-            ≡ answered_on
-            (passing (dedupe_passes self.old.most self.old.by) earlier parcel.event) shelf.old
-            parcel) }
-        ensures seen { OnOk result
-            ((earlier : List Event) → HasSeen self.old earlier →
-            HasSeen self.new (earlier ++ parcel.event ∷ [])) }
-        ensures moves { OnOk result (Moves 1 parcel.finalizers [] shelf.old shelf.new) }
-        ensures by { self.new.by ≡ self.old.by }
-        ensures most { self.new.most ≡ self.old.most }
-        ensures same { OnErr result (self.new ≡ self.old) }
-        ensures back { IfErr result (λ refused. refused.parcel ≡ parcel) }
-        ensures shelf { OnErr result (shelf.new ≡ shelf.old) }
-    {
+    fn answer(&mut self, alloc: Global, parcel: Parcel, shelf: &mut Shelf) -> Result<(), Back> {
         let key = match DedupeKey::of(alloc, &self.fields, parcel.event.get()) {
             Ok(key) => key,
             Err(WantOfMemory) => return Err(Back { parcel }),
@@ -204,36 +175,5 @@ impl Transform for Dedupe {
         } else {
             self.pass(key, parcel, shelf)
         }
-    }
-
-    /// Does nothing.
-    fn tick(&mut self, _alloc: Global, _now: u64, shelf: &mut Shelf) -> Result<(), WantOfMemory>
-        ensures ok { IsOk result }
-        ensures same { self.new ≡ self.old }
-        ensures shelf { shelf.new ≡ shelf.old }
-        ensures moves { Moves 1 [] [] shelf.old shelf.new }
-    {
-        Ok(())
-    }
-
-    /// Does nothing.
-    fn flush(&mut self, _alloc: Global, shelf: &mut Shelf) -> Result<(), WantOfMemory>
-        ensures ok { IsOk result }
-        ensures same { self.new ≡ self.old }
-        ensures shelf { shelf.new ≡ shelf.old }
-        ensures moves { Moves 1 [] [] shelf.old shelf.new }
-    {
-        Ok(())
-    }
-
-    fn due(&self) -> Option<u64> {
-        None
-    }
-
-    fn surrender(&mut self) -> Option<Finalizer>
-        ensures none { result ≡ None }
-        ensures same { self.new ≡ self.old }
-    {
-        None
     }
 }

@@ -1,22 +1,17 @@
-ghost use Rattle.std.specs.Prelude.{◌≡◌, ◌<◌, ◌^◌, ◌↔◌, ℕ, Option, None, List, [], ◌∷◌, OnOk, OnErr, IfOk, IfErr, IsOk};
+ghost use Rattle.std.specs.Prelude.{◌≡◌, ◌<◌, ◌^◌, List, [], ◌∷◌, OnOk, IfOk};
 ghost use Rattle.vx_value.specs.declared.event.Event.{Event};
 ghost use Rattle.vx_condition.specs.Steps.{Test};
 ghost use Rattle.vx_condition.specs.Picking.{filter_passes};
 ghost use Rattle.vx_record.specs.Transforms.{Means, passing, port_bits};
-ghost use Rattle.vx_transform.specs.Moves.{Moves};
-ghost use Rattle.vx_pick.specs.Answers.{answered_on};
 ghost use Rattle.vx_pick.specs.Picks.{AreMeant};
 
-use crate::answer::answer;
+use crate::answer::{answer, bits_for};
 use std::alloc::Global;
 use std::marker::Model;
 use vx_condition::Condition;
-use vx_ledger::{Finalizer, Parcel};
-use vx_transform::{Back, Shelf, Transform};
+use vx_ledger::Parcel;
+use vx_transform::{Back, Immediate, Shelf};
 use vx_value::{Event, WantOfMemory};
-
-// The bit of the one port.
-const PASSED: u128 = 1;
 
 /// Passes the events of which a condition holds, and discards all others. Contracts see its condition's text.
 #[derive(Drop)]
@@ -49,76 +44,27 @@ impl Filter {
         ensures meant { OnOk result (AreMeant (self.old ∷ [])) }
         ensures same { self.new ≡ self.old }
     {
-        Ok(if self.condition.holds(alloc, event)? {
-            PASSED
-        } else {
-            0
-        })
+        let holds = self.condition.holds(alloc, event)?;
+        Ok(bits_for(holds))
     }
 }
 
-impl Transform for Filter {
-    ghost port_count = { λ _. 1 };
+impl Immediate for Filter {
+    ghost use Rattle.vx_pick.specs.Judged.{Filtered};
 
-    ghost held = { λ _. [] };
+    ghost width = { λ _. 1 };
 
-    ghost due_at = { λ _. None };
+    ghost answers = { Filtered };
 
-    fn ports(&self) -> u32 {
+    fn width(&self) -> u32 {
         1
     }
 
     /// Puts the parcel out on port 0 where the condition holds of its event, and discards it elsewhere.
-    fn apply(
-        &mut self,
-        alloc: Global,
-        parcel: Parcel,
-        _now: u64,
-        shelf: &mut Shelf,
-    ) -> Result<(), Back>
-        ensures answered { OnOk result
-            ((test : Test) (earlier : List Event) → Means self.old test →
-            shelf.new
-            ≡ answered_on (passing (filter_passes test) earlier parcel.event) shelf.old parcel) }
-        ensures moves { OnOk result (Moves 1 parcel.finalizers [] shelf.old shelf.new) }
-        ensures same { self.new ≡ self.old }
-        ensures back { IfErr result (λ refused. refused.parcel ≡ parcel) }
-        ensures shelf { OnErr result (shelf.new ≡ shelf.old) }
-    {
+    fn answer(&mut self, alloc: Global, parcel: Parcel, shelf: &mut Shelf) -> Result<(), Back> {
         match self.ports_for(alloc, parcel.event.get()) {
             Ok(ports) => answer(shelf, ports, parcel),
             Err(WantOfMemory) => Err(Back { parcel }),
         }
-    }
-
-    /// Does nothing.
-    fn tick(&mut self, _alloc: Global, _now: u64, shelf: &mut Shelf) -> Result<(), WantOfMemory>
-        ensures ok { IsOk result }
-        ensures same { self.new ≡ self.old }
-        ensures shelf { shelf.new ≡ shelf.old }
-        ensures moves { Moves 1 [] [] shelf.old shelf.new }
-    {
-        Ok(())
-    }
-
-    /// Does nothing.
-    fn flush(&mut self, _alloc: Global, shelf: &mut Shelf) -> Result<(), WantOfMemory>
-        ensures ok { IsOk result }
-        ensures same { self.new ≡ self.old }
-        ensures shelf { shelf.new ≡ shelf.old }
-        ensures moves { Moves 1 [] [] shelf.old shelf.new }
-    {
-        Ok(())
-    }
-
-    fn due(&self) -> Option<u64> {
-        None
-    }
-
-    fn surrender(&mut self) -> Option<Finalizer>
-        ensures none { result ≡ None }
-        ensures same { self.new ≡ self.old }
-    {
-        None
     }
 }

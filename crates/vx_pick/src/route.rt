@@ -1,11 +1,7 @@
-ghost use Rattle.std.specs.Prelude.{◌≡◌, ◌+◌, ◌<◌, ◌≤◌, ◌^◌, ◌↔◌, ℕ, Option, None, List, [], ◌∷◌, length, OnOk, OnErr, IfOk, IfErr, IsOk};
-ghost use Rattle.vx_value.specs.Texts.{ByteString};
-ghost use Rattle.vx_value.specs.declared.event.Event.{Event};
+ghost use Rattle.std.specs.Prelude.{◌≡◌, ◌+◌, ◌<◌, ◌≤◌, ◌^◌, List, length, OnOk, IfOk};
 ghost use Rattle.vx_condition.specs.Steps.{Test};
 ghost use Rattle.vx_condition.specs.Picking.{accepting_ports, route_ports};
 ghost use Rattle.vx_record.specs.Transforms.{AllMean, port_bits};
-ghost use Rattle.vx_transform.specs.Moves.{Moves};
-ghost use Rattle.vx_pick.specs.Answers.{answered_on};
 ghost use Rattle.vx_pick.specs.Routes.{ways_ports};
 ghost use Rattle.vx_pick.specs.Picks.{AreMeant};
 
@@ -13,8 +9,8 @@ use crate::answer::answer;
 use std::alloc::Global;
 use std::marker::Model;
 use vx_condition::{Condition, ConditionList};
-use vx_ledger::{Finalizer, Parcel};
-use vx_transform::{Back, Shelf, Transform};
+use vx_ledger::Parcel;
+use vx_transform::{Back, Immediate, Shelf};
 use vx_value::{Event, WantOfMemory};
 
 /// Puts each event out on every port whose condition holds of it. Where none holds, it goes to the last port, or is
@@ -65,73 +61,25 @@ impl Route {
     }
 }
 
-impl Transform for Route {
+impl Immediate for Route {
     ghost use Rattle.vx_pick.specs.Routes.{ways_ports};
+    ghost use Rattle.vx_pick.specs.Judged.{Routed};
 
-    ghost port_count = { ways_ports };
+    ghost width = { ways_ports };
 
-    ghost held = { λ _. [] };
+    ghost answers = { Routed };
 
-    ghost due_at = { λ _. None };
-
-    fn ports(&self) -> u32 {
+    fn width(&self) -> u32 {
         self.conditions.len() as u32 + 1
     }
 
     /// Puts the parcel out, once, on each port whose condition holds of its event. Where none holds, puts it out on the
     /// last port, or discards it.
-    fn apply(
-        &mut self,
-        alloc: Global,
-        parcel: Parcel,
-        _now: u64,
-        shelf: &mut Shelf,
-    ) -> Result<(), Back>
-        ensures answered { OnOk result
-            ((tests : List Test) → AllMean self.old.conditions tests →
-            shelf.new
-            ≡ answered_on (route_ports tests self.old.reroute parcel.event) shelf.old parcel) }
-        ensures moves { OnOk result
-            (Moves (ways_ports self.old) parcel.finalizers [] shelf.old shelf.new) }
-        ensures same { self.new ≡ self.old }
-        ensures back { IfErr result (λ refused. refused.parcel ≡ parcel) }
-        ensures shelf { OnErr result (shelf.new ≡ shelf.old) }
-    {
+    fn answer(&mut self, alloc: Global, parcel: Parcel, shelf: &mut Shelf) -> Result<(), Back> {
         match self.ports_for(alloc, parcel.event.get()) {
             Ok(ports) => answer(shelf, ports, parcel),
             Err(WantOfMemory) => Err(Back { parcel }),
         }
-    }
-
-    /// Does nothing.
-    fn tick(&mut self, _alloc: Global, _now: u64, shelf: &mut Shelf) -> Result<(), WantOfMemory>
-        ensures ok { IsOk result }
-        ensures same { self.new ≡ self.old }
-        ensures shelf { shelf.new ≡ shelf.old }
-        ensures moves { Moves (ways_ports self.old) [] [] shelf.old shelf.new }
-    {
-        Ok(())
-    }
-
-    /// Does nothing.
-    fn flush(&mut self, _alloc: Global, shelf: &mut Shelf) -> Result<(), WantOfMemory>
-        ensures ok { IsOk result }
-        ensures same { self.new ≡ self.old }
-        ensures shelf { shelf.new ≡ shelf.old }
-        ensures moves { Moves (ways_ports self.old) [] [] shelf.old shelf.new }
-    {
-        Ok(())
-    }
-
-    fn due(&self) -> Option<u64> {
-        None
-    }
-
-    fn surrender(&mut self) -> Option<Finalizer>
-        ensures none { result ≡ None }
-        ensures same { self.new ≡ self.old }
-    {
-        None
     }
 }
 

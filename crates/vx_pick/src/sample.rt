@@ -1,24 +1,19 @@
-ghost use Rattle.std.specs.Prelude.{◌≡◌, ◌+◌, ◌<◌, ◌≤◌, ◌^◌, ◌%◌, ◌==◌, ◌||◌, ◌↔◌, ℕ, Option, None, List, [], ◌∷◌, ◌++◌, OnOk, OnErr, IfOk, IfErr, IsOk, if◌then◌else◌};
+ghost use Rattle.std.specs.Prelude.{◌≡◌, ◌+◌, ◌<◌, ◌≤◌, ◌^◌, ◌%◌, ◌==◌, ◌||◌, List, [], ◌∷◌, ◌++◌, OnOk, OnErr, IfOk, if◌then◌else◌};
 ghost use Rattle.vx_value.specs.declared.event.Event.{Event};
 ghost use Rattle.vx_condition.specs.Steps.{Test};
 ghost use Rattle.vx_condition.specs.Picking.{held as count_held, sample_passes};
 ghost use Rattle.vx_plan.specs.Options.{if_any};
 ghost use Rattle.vx_record.specs.Transforms.{AllMean, test_of, passing, port_bits};
-ghost use Rattle.vx_transform.specs.Moves.{Moves};
-ghost use Rattle.vx_pick.specs.Answers.{answered_on};
 ghost use Rattle.vx_pick.specs.Picks.{AreMeant};
 ghost use Rattle.vx_pick.specs.Samplers.{HasCounted};
 
-use crate::answer::answer;
+use crate::answer::{answer, bits_for};
 use std::alloc::Global;
 use std::marker::Model;
 use vx_condition::Condition;
-use vx_ledger::{Finalizer, Parcel};
-use vx_transform::{Back, Shelf, Transform};
+use vx_ledger::Parcel;
+use vx_transform::{Back, Immediate, Shelf};
 use vx_value::{Event, WantOfMemory};
-
-// The bit of the one port.
-const PASSED: u128 = 1;
 
 /// Passes each event whose number, from 0, is a multiple of a rate, and discards the others. An event of which a condition
 /// holds passes too, and isn't counted.
@@ -77,7 +72,7 @@ impl Sample {
         ensures same { OnErr result (self.new ≡ self.old) }
     {
         let excluded = self.is_excluded(alloc, event)?;
-        let ports = self.bits(excluded);
+        let ports = bits_for(self.passes(excluded));
         self.count(excluded);
         Ok(ports)
     }
@@ -96,15 +91,11 @@ impl Sample {
         }
     }
 
-    // The bits of the ports on which the next event is put out, if it is excluded or not.
-    fn bits(&self, excluded: bool) -> u128
-        ensures { result ≡ (if excluded || (self.now.counted % self.now.rate == 0) then 1 else 0) }
+    // Whether the next event passes, if it is excluded or not.
+    fn passes(&self, excluded: bool) -> bool
+        ensures { result ≡ (excluded || (self.now.counted % self.now.rate == 0)) }
     {
-        if excluded || self.counted % self.rate == 0 {
-            PASSED
-        } else {
-            0
-        }
+        excluded || self.counted % self.rate == 0
     }
 
     // Counts an event, if it isn't excluded.
@@ -120,85 +111,30 @@ impl Sample {
     }
 }
 
-impl Transform for Sample {
-    ghost port_count = { λ _. 1 };
+impl Immediate for Sample {
+    ghost use Rattle.vx_pick.specs.Judged.{Sampled};
 
-    ghost held = { λ _. [] };
+    ghost width = { λ _. 1 };
 
-    ghost due_at = { λ _. None };
+    ghost answers = { Sampled };
 
-    fn ports(&self) -> u32 {
+    fn width(&self) -> u32 {
         1
     }
 
     /// Puts the parcel out on port 0 where its event is excluded, or its number is a multiple of the rate, and discards it
     /// elsewhere.
-    fn apply(
-        &mut self,
-        alloc: Global,
-        parcel: Parcel,
-        _now: u64,
-        shelf: &mut Shelf,
-    ) -> Result<(), Back>
-        ensures answered { OnOk result
-            ((tests : List Test) (earlier : List Event) → AllMean (if_any self.old.exclude) tests →
-            HasCounted self.old earlier →
-            shelf.new
-            ≡ answered_on
-            (passing
-            (sample_passes self.old.rate (test_of self.old.exclude tests)) earlier parcel.event)
-            shelf.old parcel) }
-        ensures seen { OnOk result
-            ((earlier : List Event) → HasCounted self.old earlier →
-            HasCounted self.new (earlier ++ parcel.event ∷ [])) }
-        ensures moves { OnOk result (Moves 1 parcel.finalizers [] shelf.old shelf.new) }
-        ensures rate { self.new.rate ≡ self.old.rate }
-        ensures exclude { self.new.exclude ≡ self.old.exclude }
-        ensures same { OnErr result (self.new ≡ self.old) }
-        ensures back { IfErr result (λ refused. refused.parcel ≡ parcel) }
-        ensures shelf { OnErr result (shelf.new ≡ shelf.old) }
-    {
+    fn answer(&mut self, alloc: Global, parcel: Parcel, shelf: &mut Shelf) -> Result<(), Back> {
         let excluded = match self.is_excluded(alloc, parcel.event.get()) {
             Ok(excluded) => excluded,
             Err(WantOfMemory) => return Err(Back { parcel }),
         };
-        match answer(shelf, self.bits(excluded), parcel) {
+        match answer(shelf, bits_for(self.passes(excluded)), parcel) {
             Ok(()) => {
                 self.count(excluded);
                 Ok(())
             }
             Err(back) => Err(back),
         }
-    }
-
-    /// Does nothing.
-    fn tick(&mut self, _alloc: Global, _now: u64, shelf: &mut Shelf) -> Result<(), WantOfMemory>
-        ensures ok { IsOk result }
-        ensures same { self.new ≡ self.old }
-        ensures shelf { shelf.new ≡ shelf.old }
-        ensures moves { Moves 1 [] [] shelf.old shelf.new }
-    {
-        Ok(())
-    }
-
-    /// Does nothing.
-    fn flush(&mut self, _alloc: Global, shelf: &mut Shelf) -> Result<(), WantOfMemory>
-        ensures ok { IsOk result }
-        ensures same { self.new ≡ self.old }
-        ensures shelf { shelf.new ≡ shelf.old }
-        ensures moves { Moves 1 [] [] shelf.old shelf.new }
-    {
-        Ok(())
-    }
-
-    fn due(&self) -> Option<u64> {
-        None
-    }
-
-    fn surrender(&mut self) -> Option<Finalizer>
-        ensures none { result ≡ None }
-        ensures same { self.new ≡ self.old }
-    {
-        None
     }
 }

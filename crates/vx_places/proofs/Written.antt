@@ -5,6 +5,7 @@ use Rattle.std.specs.List.{slice_get}
 use Rattle.std.specs.Vec.{with_item}
 use Rattle.std.specs.Global.{Vec}
 use Rattle.std.proofs.lemmas.Bool.Decides.{nat_tests}
+use Rattle.std.proofs.lemmas.Option.{slice_get-get_or}
 use Rattle.std.proofs.lemmas.List.{length-set, get_or-set_same, set-get_or}
 use Rattle.std.proofs.lemmas.Option.{slice_get_read}
 use Rattle.std.proofs.Math.Seq.{map-set_same}
@@ -98,6 +99,12 @@ pub is_there : {X : Type 0} (F : X → Type 0) (xs : List X) (i : ℕ) → IsSom
 is_there F [] i is = absurd is
 is_there F (x ∷ xs) zero is = omega arith
 is_there F (x ∷ xs) (suc i) is = let l = is_there F xs i is in omega (arith, l)
+
+-- so a stage of a row of which something is said is before an end that isn't before the end of its stages
+pub stage_before : (F : Filled Parcel → Type 0) (rows : List Row) (i s end : ℕ) (x : Row) → i < length rows →
+    IsSomeAnd (slice_get rows i) (λ row. IsSomeAnd (slice_get row.stages.items s) F) → length (get_or rows i x).stages.items ≤ end → s < end
+stage_before F rows i s end x within is past =
+    let there = is_there F (get_or rows i x).stages.items s (rw (slice_get-get_or rows i x within) at is) in omega (arith, there, past)
 
 -- what is made of the item at a place is what it was, where it is so of the item that is written
 pub kept_but {ℓ} : {X : Type 0} {Y : Type ℓ} (F : Option X → Y) (xs : List X) (i : ℕ) (x new : X) → x ≡ get_or xs i x → (j : ℕ) → (j ≡ i → F (Some new) ≡ F (Some x)) →

@@ -144,45 +144,36 @@ keys-remove test (e ∷ es) = by_test (test e.0) refl (keys-remove test es)
     by_test false t f = rw t (ap (λ ks. (e.0, e.1.key) ∷ ks) f)
 
 -- ---- an entry taken out
-above-remove : (test : ℕ → Bool) (n : ℕ) (ks : List (ℕ × Datum)) → all_above n ks ≡ true → all_above n (remove_entry test ks) ≡ true
-above-remove test n [] h = refl
-above-remove test n (e ∷ es) h = by_test (test e.0) refl (above-remove test n es (both_right (nat_lt n e.0) (all_above n es) h))
+-- what holds of each entry and those behind it, and stays where some of these go, holds of each that is left
+each-remove : (test : ℕ → Bool) (holds : ℕ × Datum → List (ℕ × Datum) → Bool) (all : List (ℕ × Datum) → Bool) → all [] ≡ true →
+    ((e : ℕ × Datum) (es : List (ℕ × Datum)) → all (e ∷ es) ≡ (holds e es && all es)) →
+    ((e : ℕ × Datum) (es : List (ℕ × Datum)) → holds e es ≡ true → holds e (remove_entry test es) ≡ true) →
+    (ks : List (ℕ × Datum)) → all ks ≡ true → all (remove_entry test ks) ≡ true
+each-remove test holds all none step stays [] h = none
+each-remove test holds all none step stays (e ∷ es) h = by_test (test e.0) refl (each-remove test holds all none step stays es (both_right (holds e es) (all es) both))
   where
-    by_test : (b : Bool) → test e.0 ≡ b → all_above n (remove_entry test es) ≡ true → all_above n (remove_entry test (e ∷ es)) ≡ true
-    by_test true t f = rw t (both_right (nat_lt n e.0) (all_above n es) h)
-    by_test false t f = rw t (both_true (nat_lt n e.0) (all_above n (remove_entry test es)) (both_left (nat_lt n e.0) (all_above n es) h) f)
+    both : (holds e es && all es) ≡ true
+    both = sym (step e es) ∙ h
+
+    by_test : (b : Bool) → test e.0 ≡ b → all (remove_entry test es) ≡ true → all (remove_entry test (e ∷ es)) ≡ true
+    by_test true t f = rw t (both_right (holds e es) (all es) both)
+    by_test false t f =
+        rw t (step e (remove_entry test es) ∙ both_true (holds e (remove_entry test es)) (all (remove_entry test es)) (stays e es (both_left (holds e es) (all es) both)) f)
+
+above-remove : (test : ℕ → Bool) (n : ℕ) (ks : List (ℕ × Datum)) → all_above n ks ≡ true → all_above n (remove_entry test ks) ≡ true
+above-remove test n = each-remove test (λ e es. nat_lt n e.0) (all_above n) refl (λ e es. refl) (λ e es h. h)
 
 below-remove : (test : ℕ → Bool) (n : ℕ) (ks : List (ℕ × Datum)) → all_below n ks ≡ true → all_below n (remove_entry test ks) ≡ true
-below-remove test n [] h = refl
-below-remove test n (e ∷ es) h = by_test (test e.0) refl (below-remove test n es (both_right (nat_lt e.0 n) (all_below n es) h))
-  where
-    by_test : (b : Bool) → test e.0 ≡ b → all_below n (remove_entry test es) ≡ true → all_below n (remove_entry test (e ∷ es)) ≡ true
-    by_test true t f = rw t (both_right (nat_lt e.0 n) (all_below n es) h)
-    by_test false t f = rw t (both_true (nat_lt e.0 n) (all_below n (remove_entry test es)) (both_left (nat_lt e.0 n) (all_below n es) h) f)
-
-rise-remove : (test : ℕ → Bool) (ks : List (ℕ × Datum)) → numbers_rise ks ≡ true → numbers_rise (remove_entry test ks) ≡ true
-rise-remove test [] h = refl
-rise-remove test (e ∷ es) h = by_test (test e.0) refl (rise-remove test es (both_right (all_above e.0 es) (numbers_rise es) h))
-  where
-    by_test : (b : Bool) → test e.0 ≡ b → numbers_rise (remove_entry test es) ≡ true → numbers_rise (remove_entry test (e ∷ es)) ≡ true
-    by_test true t f = rw t (both_right (all_above e.0 es) (numbers_rise es) h)
-    by_test false t f = rw t (both_true (all_above e.0 (remove_entry test es)) (numbers_rise (remove_entry test es)) (above-remove test e.0 es (both_left (all_above e.0 es) (numbers_rise es) h)) f)
+below-remove test n = each-remove test (λ e es. nat_lt e.0 n) (all_below n) refl (λ e es. refl) (λ e es h. h)
 
 apart-remove : (test : ℕ → Bool) (k : Datum) (ks : List (ℕ × Datum)) → is_apart k ks ≡ true → is_apart k (remove_entry test ks) ≡ true
-apart-remove test k [] h = refl
-apart-remove test k (e ∷ es) h = by_test (test e.0) refl (apart-remove test k es (both_right (not (is_eq (datum_cmp k e.1))) (is_apart k es) h))
-  where
-    by_test : (b : Bool) → test e.0 ≡ b → is_apart k (remove_entry test es) ≡ true → is_apart k (remove_entry test (e ∷ es)) ≡ true
-    by_test true t f = rw t (both_right (not (is_eq (datum_cmp k e.1))) (is_apart k es) h)
-    by_test false t f = rw t (both_true (not (is_eq (datum_cmp k e.1))) (is_apart k (remove_entry test es)) (both_left (not (is_eq (datum_cmp k e.1))) (is_apart k es) h) f)
+apart-remove test k = each-remove test (λ e es. not (is_eq (datum_cmp k e.1))) (is_apart k) refl (λ e es. refl) (λ e es h. h)
+
+rise-remove : (test : ℕ → Bool) (ks : List (ℕ × Datum)) → numbers_rise ks ≡ true → numbers_rise (remove_entry test ks) ≡ true
+rise-remove test = each-remove test (λ e es. all_above e.0 es) numbers_rise refl (λ e es. refl) (λ e. above-remove test e.0)
 
 differ-remove : (test : ℕ → Bool) (ks : List (ℕ × Datum)) → keys_differ ks ≡ true → keys_differ (remove_entry test ks) ≡ true
-differ-remove test [] h = refl
-differ-remove test (e ∷ es) h = by_test (test e.0) refl (differ-remove test es (both_right (is_apart e.1 es) (keys_differ es) h))
-  where
-    by_test : (b : Bool) → test e.0 ≡ b → keys_differ (remove_entry test es) ≡ true → keys_differ (remove_entry test (e ∷ es)) ≡ true
-    by_test true t f = rw t (both_right (is_apart e.1 es) (keys_differ es) h)
-    by_test false t f = rw t (both_true (is_apart e.1 (remove_entry test es)) (keys_differ (remove_entry test es)) (apart-remove test e.1 es (both_left (is_apart e.1 es) (keys_differ es) h)) f)
+differ-remove test = each-remove test (λ e es. is_apart e.1 es) keys_differ refl (λ e es. refl) (λ e. apart-remove test e.1)
 
 -- a key apart has no number
 pub apart-none : (k q : Datum) (ks : List (ℕ × Datum)) → k ≡ q → is_apart k ks ≡ true → number_of q ks ≡ None

@@ -3,6 +3,7 @@ pub mod Groups
 pub mod Indexes
 pub mod Merges
 pub mod Answers
+pub mod Endings
 pub mod Expiries
 pub mod Reducers
 pub mod Inputs

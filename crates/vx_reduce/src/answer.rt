@@ -1,36 +1,14 @@
 // What becomes of an event.
-ghost use Rattle.std.specs.Prelude.{◌≡◌, is_some, OnOk, OnErr, IfErr, [], ◌∷◌};
-ghost use Rattle.vx_reduce.specs.Groups.{passed, put_all, group_of};
+ghost use Rattle.std.specs.Prelude.{◌≡◌, is_some, OnOk, OnErr, IfErr};
+ghost use Rattle.vx_reduce.specs.Groups.{put_all, group_of};
 ghost use Rattle.vx_reduce.specs.Answers.{groups_after, outputs_after};
 
-use crate::group::PASSED;
+use crate::group::{Ending, pass};
 use crate::groups::Groups;
 use crate::plan::Plan;
 use std::alloc::Global;
-use vx_ledger::{Finalizers, Parcel, SharedEvent};
-use vx_transform::{Back, Shelf};
-
-// Puts an event out with its copies. For want of memory the copies come back, and the shelf is as before.
-fn pass(event: SharedEvent, copies: Finalizers, shelf: &mut Shelf) -> Result<(), Finalizers>
-    ensures ok { OnOk result
-        (shelf.new
-        ≡ put_all shelf.old (passed (record { event = event; finalizers = copies }) ∷ [])) }
-    ensures err { OnErr result (shelf.new ≡ shelf.old) }
-    ensures back { IfErr result (λ refused. refused ≡ copies) }
-{
-    let finalizers = copies;
-    match shelf.put(PASSED, Parcel { event, finalizers }) {
-        Ok(()) => Ok(()),
-        Err(back) => {
-            let Back { parcel } = back;
-            let Parcel {
-                event: _,
-                finalizers,
-            } = parcel;
-            Err(finalizers)
-        }
-    }
-}
+use vx_ledger::Finalizers;
+use vx_transform::Shelf;
 
 // Does with an event and its copies what was planned. For want of memory the copies come back, and all is as before.
 pub(crate) fn answer(
@@ -69,13 +47,13 @@ pub(crate) fn answer(
     }
     if starts {
         return if ends {
-            groups.put_out_before(&key, event, copies, shelf)
+            groups.put_out_with(&key, Ending::Apart, event, copies, shelf)
         } else {
             groups.restart(key, event, copies, now, shelf)
         };
     }
     if ends {
-        groups.put_out_with(&key, event, copies, shelf)
+        groups.put_out_with(&key, Ending::Joined, event, copies, shelf)
     } else {
         groups.join(&key, event, copies, now)
     }

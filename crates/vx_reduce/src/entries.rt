@@ -1,17 +1,18 @@
 // Groups under numbers.
-ghost use Rattle.std.specs.Prelude.{◌≡◌, ℕ, Option, Some, None, [], ◌∷◌, ◌++◌, OnOk, OnErr, IfOk, IfErr, IfSome, IsSome};
+ghost use Rattle.std.specs.Prelude.{◌≡◌, ℕ, Option, Some, None, OnOk, OnErr, IfOk, IfErr, IfSome, IsSome};
 ghost use Rattle.std.specs.Ordering.{nat_cmp};
 ghost use Rattle.std.specs.Map.{lookup, remove_entry, set_value};
 ghost use Rattle.std.specs.BTreeMap.{is_at, insert_entry};
-ghost use Rattle.vx_reduce.specs.Groups.{passed, output_found, copies_found, put_all, joined_group};
+ghost use Rattle.vx_reduce.specs.Groups.{output_found, put_all, joined_group};
+ghost use Rattle.vx_reduce.specs.Endings.{ending_outputs, IsTakenOut};
 ghost use Rattle.vx_reduce.specs.Indexes.{IsHollow, IsFull};
 
-use crate::group::Group;
+use crate::group::{Ending, Group};
 use crate::group_key::GroupKey;
 use crate::refused::Refused;
 use std::collections::BTreeMap;
 use vx_ledger::{Finalizers, Parcel, SharedEvent};
-use vx_transform::{Back, Shelf};
+use vx_transform::Shelf;
 use vx_value::WantOfMemory;
 
 // Takes more copies to a group. For want of memory they come back, and the group is as before.
@@ -40,10 +41,7 @@ pub(crate) fn join_at(
 // Takes a group out whose parcel is gone, and says its key.
 fn remove_hollow(entries: &mut BTreeMap<u64, Group>, number: u64) -> GroupKey
     requires { IsHollow (lookup (is_at (nat_cmp number)) entries.old.entries) }
-    ensures entries { entries.new.entries
-        ≡ remove_entry (is_at (nat_cmp number)) entries.old.entries }
-    ensures key { IfSome (lookup (is_at (nat_cmp number)) entries.old.entries)
-        (λ g. result ≡ g.key) }
+    ensures { IsTakenOut number result entries.old.entries entries.new.entries }
 {
     match entries.remove(&number) {
         Some(group) => group.end(),
@@ -58,13 +56,11 @@ pub(crate) fn put_out_at(
     shelf: &mut Shelf,
 ) -> Result<GroupKey, WantOfMemory>
     requires { IsSome (lookup (is_at (nat_cmp number)) entries.old.entries) }
-    ensures entries { OnOk result
-        (entries.new.entries ≡ remove_entry (is_at (nat_cmp number)) entries.old.entries) }
+    ensures taken { IfOk result
+        (λ key. IsTakenOut number key entries.old.entries entries.new.entries) }
     ensures put_out { OnOk result
         (shelf.new
         ≡ put_all shelf.old (output_found (lookup (is_at (nat_cmp number)) entries.old.entries))) }
-    ensures key { IfOk result
-        (λ key. IfSome (lookup (is_at (nat_cmp number)) entries.old.entries) (λ g. key ≡ g.key)) }
     ensures err { OnErr result (entries.new.entries ≡ entries.old.entries) }
     ensures shelf { OnErr result (shelf.new ≡ shelf.old) }
 {
@@ -75,66 +71,29 @@ pub(crate) fn put_out_at(
     Ok(remove_hollow(entries, number))
 }
 
-// Puts a group out, and another parcel behind it, and says the group's key. For want of memory that parcel comes back, and
-// all is as before.
-pub(crate) fn put_out_before_at(
-    entries: &mut BTreeMap<u64, Group>,
-    number: u64,
-    last: Parcel,
-    shelf: &mut Shelf,
-) -> Result<GroupKey, Back>
-    requires { IsSome (lookup (is_at (nat_cmp number)) entries.old.entries) }
-    ensures entries { OnOk result
-        (entries.new.entries ≡ remove_entry (is_at (nat_cmp number)) entries.old.entries) }
-    ensures put_out { OnOk result
-        (shelf.new
-        ≡ put_all shelf.old
-        (output_found (lookup (is_at (nat_cmp number)) entries.old.entries) ++ passed last ∷ [])) }
-    ensures key { IfOk result
-        (λ key. IfSome (lookup (is_at (nat_cmp number)) entries.old.entries) (λ g. key ≡ g.key)) }
-    ensures err { OnErr result (entries.new.entries ≡ entries.old.entries) }
-    ensures back { IfErr result (λ refused. refused.parcel ≡ last) }
-    ensures shelf { OnErr result (shelf.new ≡ shelf.old) }
-{
-    match entries.get_mut(&number) {
-        Some(group) => match group.put_out_before(last, shelf) {
-            Ok(()) => {}
-            Err(back) => return Err(back),
-        },
-        None => unreachable!(),
-    }
-    Ok(remove_hollow(entries, number))
-}
-
-// Puts a group's copies out with more behind them, and says its key. For want of memory the copies come back, and all is as
+// Puts a group out with an event that ends it, and says its key. For want of memory the event's copies come back, and all is as
 // before.
 pub(crate) fn put_out_with_at(
     entries: &mut BTreeMap<u64, Group>,
     number: u64,
+    ending: Ending,
     event: SharedEvent,
     copies: Finalizers,
     shelf: &mut Shelf,
 ) -> Result<GroupKey, Finalizers>
     requires { IsSome (lookup (is_at (nat_cmp number)) entries.old.entries) }
-    ensures entries { OnOk result
-        (entries.new.entries ≡ remove_entry (is_at (nat_cmp number)) entries.old.entries) }
+    ensures taken { IfOk result
+        (λ key. IsTakenOut number key entries.old.entries entries.new.entries) }
     ensures put_out { OnOk result
         (shelf.new
         ≡ put_all shelf.old
-        (passed
-        (record {
-          event = event;
-          finalizers = copies_found (lookup (is_at (nat_cmp number)) entries.old.entries) ++ copies;
-        })
-        ∷ [])) }
-    ensures key { IfOk result
-        (λ key. IfSome (lookup (is_at (nat_cmp number)) entries.old.entries) (λ g. key ≡ g.key)) }
+        (ending_outputs ending (lookup (is_at (nat_cmp number)) entries.old.entries) event copies)) }
     ensures err { OnErr result (entries.new.entries ≡ entries.old.entries) }
     ensures back { IfErr result (λ refused. refused ≡ copies) }
     ensures shelf { OnErr result (shelf.new ≡ shelf.old) }
 {
     match entries.get_mut(&number) {
-        Some(group) => match group.put_out_with(event, copies, shelf) {
+        Some(group) => match group.put_out_with(ending, event, copies, shelf) {
             Ok(()) => {}
             Err(copies) => return Err(copies),
         },

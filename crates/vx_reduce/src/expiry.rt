@@ -120,7 +120,7 @@ fn end_first(index: &mut BTreeMap<GroupKey, u64>, entries: &mut BTreeMap<u64, Gr
         IsIndexed index.new.entries entries.new.entries next }
 {
     match entries.pop_first() {
-        Some((_number, group)) => forget(index, group.end_bare()),
+        Some((_number, group)) => forget(index, group.end()),
         None => unreachable!(),
     }
 }

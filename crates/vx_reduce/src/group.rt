@@ -1,5 +1,6 @@
 ghost use Rattle.std.specs.Prelude.{◌≡◌, None, Some, [], ◌∷◌, ◌++◌, OnOk, OnErr, IfErr, IfSome, IfNone, IsSome};
 ghost use Rattle.vx_reduce.specs.Groups.{copies_in, passed, output_in, put_all, joined_group};
+ghost use Rattle.vx_reduce.specs.Endings.{ending_outputs};
 
 use crate::group_key::GroupKey;
 use crate::refused::Refused;
@@ -8,7 +9,49 @@ use vx_transform::{Back, BothBack, Shelf};
 use vx_value::WantOfMemory;
 
 // The bit of the one port.
-pub(crate) const PASSED: u128 = 1;
+const PASSED: u128 = 1;
+
+// How an event that ends a group goes out.
+#[derive(Clone, Copy)]
+pub(crate) enum Ending {
+    // Behind the group, as a parcel of its own.
+    Apart,
+    // In place of the group's event, with the group's copies before its own.
+    Joined,
+}
+
+// The copies of a parcel.
+pub(crate) fn copies_of(parcel: Parcel) -> Finalizers
+    ensures { result ≡ parcel.finalizers }
+{
+    let Parcel {
+        event: _,
+        finalizers,
+    } = parcel;
+    finalizers
+}
+
+// Puts an event out with its copies. For want of memory the copies come back, and the shelf is as before.
+pub(crate) fn pass(
+    event: SharedEvent,
+    copies: Finalizers,
+    shelf: &mut Shelf,
+) -> Result<(), Finalizers>
+    ensures ok { OnOk result
+        (shelf.new
+        ≡ put_all shelf.old (passed (record { event = event; finalizers = copies }) ∷ [])) }
+    ensures err { OnErr result (shelf.new ≡ shelf.old) }
+    ensures back { IfErr result (λ refused. refused ≡ copies) }
+{
+    let finalizers = copies;
+    match shelf.put(PASSED, Parcel { event, finalizers }) {
+        Ok(()) => Ok(()),
+        Err(back) => {
+            let Back { parcel } = back;
+            Err(copies_of(parcel))
+        }
+    }
+}
 
 // The events of a key, merged: their parcel, and the moment of the last one. The parcel is gone only while it's on its
 // way out.
@@ -42,25 +85,26 @@ impl Group {
                     Ok(joined) => joined,
                     Err(refused) => {
                         let MergeRefused { first, second } = refused;
-                        self.fill(so_far, first);
+                        self.fill(Parcel {
+                            event: so_far,
+                            finalizers: first,
+                        });
                         return Err(second);
                     }
                 }
             }
         };
-        self.fill(event, finalizers);
+        self.fill(Parcel { event, finalizers });
         self.moment = moment;
         Ok(())
     }
 
     // Puts a parcel in place of the one that is gone.
-    fn fill(&mut self, event: SharedEvent, finalizers: Finalizers)
+    fn fill(&mut self, parcel: Parcel)
         requires { self.old.parcel ≡ None }
-        ensures { self.new
-            ≡ record
-            self.old { parcel = Some (record { event = event; finalizers = finalizers }) } }
+        ensures { self.new ≡ record self.old { parcel = Some parcel } }
     {
-        match self.parcel.replace(Parcel { event, finalizers }) {
+        match self.parcel.replace(parcel) {
             None => {}
             Some(_) => unreachable!(),
         }
@@ -81,99 +125,75 @@ impl Group {
             Ok(()) => Ok(()),
             Err(back) => {
                 let Back { parcel } = back;
-                let Parcel { event, finalizers } = parcel;
-                self.fill(event, finalizers);
+                self.fill(parcel);
                 Err(WantOfMemory)
             }
         }
     }
 
-    // Puts its parcel out, and another one behind it. For want of memory that one comes back, and group and shelf are as
-    // before.
-    pub(crate) fn put_out_before(&mut self, last: Parcel, shelf: &mut Shelf) -> Result<(), Back>
-        ensures ok { OnOk result
-            (shelf.new ≡ put_all shelf.old (output_in self.old.parcel ++ passed last ∷ [])) }
-        ensures hollow { OnOk result (self.new.parcel ≡ None) }
-        ensures key { self.new.key ≡ self.old.key }
-        ensures err { OnErr result (self.new ≡ self.old) }
-        ensures back { IfErr result (λ refused. refused.parcel ≡ last) }
-        ensures shelf { OnErr result (shelf.new ≡ shelf.old) }
-    {
-        let Some(parcel) = self.parcel.take() else {
-            return shelf.put(PASSED, last);
-        };
-        match shelf.put_both(PASSED, parcel, last) {
-            Ok(()) => Ok(()),
-            Err(refused) => {
-                let BothBack { first, second } = refused;
-                let Parcel { event, finalizers } = first;
-                self.fill(event, finalizers);
-                Err(Back { parcel: second })
-            }
-        }
-    }
-
-    // Puts its copies out with more behind them, and with an event in place of its own. For want of memory the copies come
-    // back, and group and shelf are as before.
+    // Puts its parcel out with an event that ends it. For want of memory the event's copies come back, and group and shelf are
+    // as before.
     pub(crate) fn put_out_with(
         &mut self,
+        ending: Ending,
         event: SharedEvent,
         copies: Finalizers,
         shelf: &mut Shelf,
     ) -> Result<(), Finalizers>
         ensures ok { OnOk result
-            (shelf.new
-            ≡ put_all shelf.old
-            (passed (record { event = event; finalizers = copies_in self.old.parcel ++ copies })
-            ∷ [])) }
+            (shelf.new ≡ put_all shelf.old (ending_outputs ending (Some self.old) event copies)) }
         ensures hollow { OnOk result (self.new.parcel ≡ None) }
         ensures key { self.new.key ≡ self.old.key }
         ensures err { OnErr result (self.new ≡ self.old) }
         ensures back { IfErr result (λ refused. refused ≡ copies) }
         ensures shelf { OnErr result (shelf.new ≡ shelf.old) }
     {
-        let Some(parcel) = self.parcel.take() else {
-            let finalizers = copies;
-            return match shelf.put(PASSED, Parcel { event, finalizers }) {
-                Ok(()) => Ok(()),
-                Err(back) => {
-                    let Back { parcel } = back;
-                    let Parcel {
-                        event: _,
-                        finalizers,
-                    } = parcel;
-                    Err(finalizers)
-                }
-            };
+        let Some(own) = self.parcel.take() else {
+            return pass(event, copies, shelf);
         };
-        let Parcel {
-            event: so_far,
-            finalizers: first,
-        } = parcel;
-        match shelf.put_joined(PASSED, event, first, copies) {
-            Ok(()) => Ok(()),
-            Err(refused) => {
-                let MergeRefused { first, second } = refused;
-                self.fill(so_far, first);
-                Err(second)
+        match ending {
+            Ending::Apart => {
+                let finalizers = copies;
+                match shelf.put_both(PASSED, own, Parcel { event, finalizers }) {
+                    Ok(()) => Ok(()),
+                    Err(refused) => {
+                        let BothBack { first, second } = refused;
+                        self.fill(first);
+                        Err(copies_of(second))
+                    }
+                }
+            }
+            Ending::Joined => {
+                let Parcel {
+                    event: so_far,
+                    finalizers: first,
+                } = own;
+                match shelf.put_joined(PASSED, event, first, copies) {
+                    Ok(()) => Ok(()),
+                    Err(refused) => {
+                        let MergeRefused { first, second } = refused;
+                        self.fill(Parcel {
+                            event: so_far,
+                            finalizers: first,
+                        });
+                        Err(second)
+                    }
+                }
             }
         }
     }
 
-    // The key of a group whose parcel is gone, which ends.
-    pub(crate) fn end(self) -> GroupKey
-        requires { self.parcel ≡ None }
-        ensures { result ≡ self.key }
+    // Its key and its parcel.
+    fn parts(self) -> (GroupKey, Option<Parcel>)
+        ensures key { result.0 ≡ self.key }
+        ensures parcel { result.1 ≡ self.parcel }
     {
         let Group {
             key,
             moment: _,
             parcel,
         } = self;
-        match parcel {
-            None => key,
-            Some(_) => unreachable!(),
-        }
+        (key, parcel)
     }
 
     // The key and the parcel of a group that found no place.
@@ -182,14 +202,10 @@ impl Group {
         ensures key { result.key ≡ self.key }
         ensures parcel { self.parcel ≡ Some result.parcel }
     {
-        let Group {
-            key,
-            moment: _,
-            parcel,
-        } = self;
+        let (key, parcel) = self.parts();
         match parcel {
-            None => unreachable!(),
             Some(parcel) => Refused { key, parcel },
+            None => unreachable!(),
         }
     }
 
@@ -208,24 +224,14 @@ impl Group {
     }
 
     // The key of a group that has no copies, which ends.
-    pub(crate) fn end_bare(self) -> GroupKey
+    pub(crate) fn end(self) -> GroupKey
         requires { copies_in self.parcel ≡ [] }
         ensures { result ≡ self.key }
     {
-        let Group {
-            key,
-            moment: _,
-            parcel,
-        } = self;
+        let (key, parcel) = self.parts();
         match parcel {
+            Some(parcel) => copies_of(parcel).end(),
             None => {}
-            Some(parcel) => {
-                let Parcel {
-                    event: _,
-                    finalizers,
-                } = parcel;
-                finalizers.end();
-            }
         }
         key
     }

@@ -9,18 +9,16 @@ ghost use Rattle.vx_reduce.specs.Indexes.{keys_under, all_below};
 ghost use Rattle.vx_value.specs.Datum.{Datum};
 ghost use Rattle.vx_value.specs.Orders.{datum_cmp};
 
-use crate::entries::{
-    join_at, place_at, put_out_at, put_out_before_at, put_out_with_at, take_back_at,
-};
+use crate::entries::{join_at, place_at, put_out_at, put_out_with_at, take_back_at};
 use crate::expiry::{old_numbers, put_out_numbers, take_copy_from};
-use crate::group::Group;
+use crate::group::{Ending, Group, copies_of};
 use crate::group_key::GroupKey;
 use crate::refused::Refused;
 use std::alloc::Global;
 use std::collections::BTreeMap;
 use std::marker::Model;
 use vx_ledger::{Finalizer, Finalizers, Parcel, SharedEvent};
-use vx_transform::{Back, Shelf};
+use vx_transform::Shelf;
 use vx_value::WantOfMemory;
 
 // Groups of different keys, in the order of their first events. Contracts see them as a list.
@@ -162,21 +160,11 @@ fn exchange(
     }
 }
 
-// The copies of a parcel.
-fn copies_of(parcel: Parcel) -> Finalizers
-    ensures { result ≡ parcel.finalizers }
-{
-    let Parcel {
-        event: _,
-        finalizers,
-    } = parcel;
-    finalizers
-}
-
 impl Groups {
     ghost use Rattle.vx_value.specs.Texts.{is_empty};
     ghost use Rattle.vx_reduce.specs.Expiries.{is_old, HasPutOut};
-    ghost use Rattle.vx_reduce.specs.Groups.{copies_held, new_group, passed, copies_found, joined_group, group_of, changed, without};
+    ghost use Rattle.vx_reduce.specs.Groups.{copies_held, new_group, joined_group, group_of, changed, without};
+    ghost use Rattle.vx_reduce.specs.Endings.{ending_outputs};
 
     // No groups. It takes no memory.
     pub(crate) fn new(alloc: Global) -> Self
@@ -313,48 +301,12 @@ impl Groups {
         }
     }
 
-    // Puts the group of a key out, and an event of its own behind it. For want of memory its copies come back, and all is as
+    // Puts the group of a key out with an event that ends it. For want of memory the event's copies come back, and all is as
     // before.
-    pub(crate) fn put_out_before(
-        &mut self,
-        key: &GroupKey,
-        event: SharedEvent,
-        copies: Finalizers,
-        shelf: &mut Shelf,
-    ) -> Result<(), Finalizers>
-        requires { IsSome (group_of key.now self.old) }
-        ensures ok { OnOk result (self.new ≡ without key.now self.old) }
-        ensures put_out { OnOk result
-            (shelf.new
-            ≡ put_all shelf.old
-            (output_found (group_of key.now self.old)
-            ++ passed (record { event = event; finalizers = copies }) ∷ [])) }
-        ensures err { OnErr result (self.new ≡ self.old) }
-        ensures back { IfErr result (λ refused. refused ≡ copies) }
-        ensures shelf { OnErr result (shelf.new ≡ shelf.old) }
-    {
-        let Some(number) = number_in(&self.index, key) else {
-            unreachable!()
-        };
-        let finalizers = copies;
-        let last = Parcel { event, finalizers };
-        match put_out_before_at(&mut self.entries, number, last, shelf) {
-            Ok(key) => {
-                forget(&mut self.index, key);
-                Ok(())
-            }
-            Err(back) => {
-                let Back { parcel } = back;
-                Err(copies_of(parcel))
-            }
-        }
-    }
-
-    // Puts the copies of a key's group out with more behind them, and with an event in place of its own. For want of memory
-    // the copies come back, and all is as before.
     pub(crate) fn put_out_with(
         &mut self,
         key: &GroupKey,
+        ending: Ending,
         event: SharedEvent,
         copies: Finalizers,
         shelf: &mut Shelf,
@@ -364,11 +316,7 @@ impl Groups {
         ensures put_out { OnOk result
             (shelf.new
             ≡ put_all shelf.old
-            (passed
-            (record {
-              event = event;
-              finalizers = copies_found (group_of key.now self.old) ++ copies;
-            }) ∷ [])) }
+            (ending_outputs ending (group_of key.now self.old) event copies)) }
         ensures err { OnErr result (self.new ≡ self.old) }
         ensures back { IfErr result (λ refused. refused ≡ copies) }
         ensures shelf { OnErr result (shelf.new ≡ shelf.old) }
@@ -376,7 +324,7 @@ impl Groups {
         let Some(number) = number_in(&self.index, key) else {
             unreachable!()
         };
-        match put_out_with_at(&mut self.entries, number, event, copies, shelf) {
+        match put_out_with_at(&mut self.entries, number, ending, event, copies, shelf) {
             Ok(key) => {
                 forget(&mut self.index, key);
                 Ok(())

@@ -58,46 +58,23 @@ impl MergeRules {
             ≡ merged_value self.now.group_by self.now.strategies (named_datum field.now)
             (option_map datum_of (option_copied so_far.entry))) }
     {
+        let keeps = self.is_grouping(field.name.as_str());
+        let how = self.how_of(field.name.as_str());
         match so_far {
-            None => self.first_value(alloc, field),
-            Some(so_far) => self.next_value(alloc, field, so_far),
-        }
-    }
-
-    // The value of a field that a group has not.
-    fn first_value(&self, alloc: Global, field: &Field) -> Result<Value, WantOfMemory>
-        ensures { IfOk result
-            (λ value. datum_of value
-            ≡ merged_value self.now.group_by self.now.strategies (named_datum field.now) None) }
-    {
-        if self.is_grouping(field.name.as_str()) {
-            field.value.copy(alloc)
-        } else {
-            begun(alloc, self.how_of(field.name.as_str()), &field.value)
-        }
-    }
-
-    // The value of a field that a group has with this value.
-    fn next_value(
-        &self,
-        alloc: Global,
-        field: &Field,
-        so_far: &Value,
-    ) -> Result<Value, WantOfMemory>
-        ensures { IfOk result
-            (λ value. datum_of value
-            ≡ merged_value self.now.group_by self.now.strategies (named_datum field.now)
-            (Some (datum_of so_far.now))) }
-    {
-        if self.is_grouping(field.name.as_str()) {
-            so_far.copy(alloc)
-        } else {
-            combined(
-                alloc,
-                self.how_of(field.name.as_str()),
-                so_far,
-                &field.value,
-            )
+            None => {
+                if keeps {
+                    field.value.copy(alloc)
+                } else {
+                    begun(alloc, how, &field.value)
+                }
+            }
+            Some(so_far) => {
+                if keeps {
+                    so_far.copy(alloc)
+                } else {
+                    combined(alloc, how, so_far, &field.value)
+                }
+            }
         }
     }
 

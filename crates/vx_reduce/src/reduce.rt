@@ -143,9 +143,6 @@ impl Reduce {
             plan.event }
         ensures answered { OnOk result
             (HasAnswered self.old self.new parcel now shelf.old shelf.new) }
-        ensures moves { OnOk result
-            (Moves 1 (copies_held self.old.groups ++ parcel.finalizers)
-            (copies_held self.new.groups) shelf.old shelf.new) }
         ensures back { IfErr result (λ refused. refused.parcel ≡ parcel) }
         ensures unchanged { OnErr result (self.new ≡ self.old) }
         ensures shelf { OnErr result (shelf.new ≡ shelf.old) }

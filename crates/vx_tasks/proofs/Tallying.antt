@@ -16,7 +16,7 @@ use Rattle.vx_tasks.specs.declared.task.Role.{Role}
 use Rattle.vx_tasks.specs.declared.task.Role.TheVariants as role
 use Rattle.vx_tasks.specs.Jobs.{NoneFell, ShowsAlone, ShowsDone, ShowsWork, StartsNone, StartsOnce}
 use Rattle.vx_tasks.specs.declared.sending.Attempted.{Attempted}
-use Rattle.vx_tasks.specs.Attempts.{CountsReply, trouble_counts, sent_counts, reply_counts}
+use Rattle.vx_tasks.specs.Attempts.{RepliesBy, CountsReply, CountsSent, trouble_counts, sent_counts, reply_counts}
 
 -- a count behind one that stayed
 counts_after : (e f : Bool) (x y z : ℕ) (b : Bool) → f ≡ e → Counts e x y false → Counts f y z b → Counts e x z b
@@ -71,25 +71,17 @@ gave_counts Failed old new counts = counts
 gave_counts Refused old new counts = counts
 gave_counts WantOfMemory old new counts = counts
 
--- what a start, gives and a finish count: a start where the port wasn't started, but none where it failed
-abbrev pub all_counts : Bool → Result (Unit {0}) Trouble → Happened
-all_counts started answer = record nothing { started = started; failed = is_failed answer; refused = is_refused answer; finished = is_ok answer }
-
-pub record CountsSent (old new : Observation) (answer : Result (Unit {0}) Trouble) : Type 0 where
-  pub started : Bool
-  pub first : started ≡ true → old.started ≡ false
-  pub known : (is_ok answer || is_refused answer) ≡ true → started ≡ not old.started
-  pub counts : CountsBy (all_counts started answer) old new
-
 off : (was : Bool) → not was ≡ true → was ≡ false
 off true is = cc
 off false is = refl
 
-pub sent_behind : (old mid new : Observation) (answer : Result (Unit {0}) Trouble) → CountsBy (record nothing { started = not old.started }) old mid → CountsBy (sent_counts answer) mid new → CountsSent old new answer
-sent_behind old mid new answer one two = record {
+pub sent_behind : (old mid new : Observation) (answer : Result (Unit {0}) Trouble) → CountsBy (record nothing { started = not old.started }) old mid →
+    CountsBy (sent_counts answer) mid new → new.started ≡ true → CountsSent answer old new
+sent_behind old mid new answer one two ready = record {
   started = not old.started;
   first = off old.started;
   known = λ is. refl;
+  ready = λ is. ready;
   counts = record {
     faults = counts_after old.exact mid.exact old.faults mid.faults new.faults (is_failed answer) one.exact one.faults two.faults;
     refusals = counts_after old.exact mid.exact old.refusals mid.refusals new.refusals (is_refused answer) one.exact one.refusals two.refusals;
@@ -102,24 +94,36 @@ sent_behind old mid new answer one two = record {
 }
 
 -- no start
-pub sent_none : (old new : Observation) (t : Trouble) → ◌≢◌ {A = Result (Unit {0}) Trouble} (Err t) (Err Refused) → CountsBy (record nothing { failed = is_failed {T = Unit {0}} (Err t) }) old new → CountsSent old new (Err t)
-sent_none old new Failed un counts = record { started = false; first = λ is. cc; known = λ is. cc; counts = counts }
-sent_none old new WantOfMemory un counts = record { started = false; first = λ is. cc; known = λ is. cc; counts = counts }
+pub sent_none : (old new : Observation) (t : Trouble) → ◌≢◌ {A = Result (Unit {0}) Trouble} (Err t) (Err Refused) →
+    CountsBy (record nothing { failed = is_failed {T = Unit {0}} (Err t) }) old new → CountsSent (Err t) old new
+sent_none old new Failed un counts = record { started = false; first = λ is. cc; known = λ is. cc; ready = λ is. cc; counts = counts }
+sent_none old new WantOfMemory un counts = record { started = false; first = λ is. cc; known = λ is. cc; ready = λ is. cc; counts = counts }
 sent_none old new Refused un counts = absurd (un refl)
 
--- what the reply to that counts, and what is counted where the port is closed behind it
-pub replied_ok : (old new : Observation) (sent : ℕ) → CountsSent old new (Ok tt) → CountsReply old new (record { sent = sent; reply = reply.Ok })
-replied_ok old new sent is = record { started = is.started; first = is.first; known = λ other. is.known refl; counts = is.counts }
+-- what the reply to that says and counts, and what is counted where the port is closed behind it
+module _ (old new : Observation) where
+  pub ok_caused : CountsSent (Ok tt) old new → RepliesBy old new reply.Ok
+  ok_caused is = (is.counts.finishes.rose refl, is.ready refl)
 
-pub replied_refused : (old new : Observation) (sent : ℕ) → CountsSent old new (Err Refused) → CountsReply old new (record { sent = sent; reply = reply.Refused })
-replied_refused old new sent is = record { started = is.started; first = is.first; known = λ other. is.known refl; counts = is.counts }
+  pub ok_counted : (sent : ℕ) → CountsSent (Ok tt) old new → CountsReply old new (record { sent = sent; reply = reply.Ok })
+  ok_counted sent is = record { started = is.started; first = is.first; known = λ other. is.known refl; counts = is.counts }
 
-pub replied_failed : (old mid new : Observation) (sent : ℕ) → CountsSent old mid (Err Failed) → CountsBy nothing mid new → CountsReply old new (record { sent = sent; reply = reply.Failed })
-replied_failed old mid new sent is closed =
-    record { started = is.started; first = is.first; known = λ other. absurd (other refl); counts = before_nothing (reply_counts is.started reply.Failed) old mid new is.counts closed }
+  pub refused_caused : CountsSent (Err Refused) old new → RepliesBy old new reply.Refused
+  refused_caused is = (is.counts.refusals.rose refl, is.ready refl)
 
-pub replied_none : (old mid new : Observation) → CountsSent old mid (Err WantOfMemory) → CountsBy nothing mid new → StartsAtMost old new
-replied_none old mid new is closed = record { started = is.started; first = is.first; counts = before_nothing (record nothing { started = is.started }) old mid new is.counts closed }
+  pub refused_counted : (sent : ℕ) → CountsSent (Err Refused) old new → CountsReply old new (record { sent = sent; reply = reply.Refused })
+  refused_counted sent is = record { started = is.started; first = is.first; known = λ other. is.known refl; counts = is.counts }
+
+  module _ (mid : Observation) (is : CountsSent (Err Failed) old mid) (closed : CountsBy nothing mid new) where
+    pub failed_counted : (sent : ℕ) → CountsReply old new (record { sent = sent; reply = reply.Failed })
+    failed_counted sent =
+        record { started = is.started; first = is.first; known = λ other. absurd (other refl); counts = before_nothing (reply_counts is.started reply.Failed) old mid new is.counts closed }
+
+    pub failed_caused : new.started ≡ false → RepliesBy old new reply.Failed
+    failed_caused off = ((failed_counted 0).counts.faults.rose refl, off)
+
+pub short_counted : (old mid new : Observation) → CountsSent (Err WantOfMemory) old mid → CountsBy nothing mid new → StartsAtMost old new
+short_counted old mid new is closed = record { started = is.started; first = is.first; counts = before_nothing (record nothing { started = is.started }) old mid new is.counts closed }
 
 -- A PORT IS STARTED AT MOST ONCE
 pub once_most : (old new : Observation) → StartsAtMost old new → StartsOnce old new

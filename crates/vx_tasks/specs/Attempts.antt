@@ -1,5 +1,5 @@
 -- What an attempt does to the port, and what its answer says.
-use Rattle.std.specs.Prelude.{◌≡◌, ◌≢◌, ℕ, ◌≤◌, not, Bool, true, false, Option, Some, None, Result, is_ok}
+use Rattle.std.specs.Prelude.{◌≡◌, ◌≢◌, ℕ, ◌≤◌, not, ◌||◌, Bool, true, false, Option, Some, None, Result, is_ok}
 use Rattle.vx_ends.specs.Observation.{Observation, Rose, Happened, CountsBy, nothing, is_failed, is_refused}
 use Rattle.vx_ends.specs.declared.trouble.Trouble.{Trouble}
 use Rattle.vx_ends.specs.declared.trouble.Trouble.TheVariants as trouble
@@ -42,6 +42,19 @@ trouble_counts (Some trouble.WantOfMemory) = nothing
 -- what gives and a finish count
 abbrev pub sent_counts : {T : Type 0} → Result T Trouble → Happened
 sent_counts answer = record nothing { failed = is_failed answer; refused = is_refused answer; finished = is_ok answer }
+
+-- what a start, gives and a finish count
+abbrev pub all_counts : Bool → Result (Unit {0}) Trouble → Happened
+all_counts started answer = record (sent_counts answer) { started = started }
+
+-- a start, gives and a finish count their answer once, and one start exactly where the port wasn't started, but perhaps none where
+-- that failed; the port is started where the device took them or refused them
+pub record CountsSent (answer : Result (Unit {0}) Trouble) (old new : Observation) : Type 0 where
+  pub started : Bool
+  pub first : started ≡ true → old.started ≡ false
+  pub known : (is_ok answer || is_refused answer) ≡ true → started ≡ not old.started
+  pub ready : (is_ok answer || is_refused answer) ≡ true → new.started ≡ true
+  pub counts : CountsBy (all_counts started answer) old new
 
 -- what a reply counts, with a start or without
 abbrev pub reply_counts : Bool → Reply → Happened

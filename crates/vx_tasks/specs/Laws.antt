@@ -84,3 +84,17 @@ AnswerKnown =
     (h : Record) (i : ℕ) (ports : List ℕ) (parcels : List Parcel) → AreKnown h parcels →
     AreKnown (Answer i (put_out_on ports parcels) (refused_on ports parcels) [] ∷ h) (parcels_out (passed ports parcels))
     × AreKnown (Answer i (put_out_on ports parcels) (refused_on ports parcels) [] ∷ h) (stopped ports parcels)
+
+-- all of these
+pub record TaskLaws {P : Type 0} (observe : P → Observation) : Type 0 where
+  pub left : LeftKept observe
+  pub done : DoneKept observe
+  pub starved : StarvedBeyond observe
+  pub closed : ClosedStays
+  pub judge : JudgeIs observe
+  pub judged : EachJudged observe
+  pub distinct : HeldDistinct observe
+  pub answers : AnswersNow observe
+  pub kept : AnswerKept observe
+  pub divides : AnswerDivides
+  pub known : AnswerKnown

@@ -1,7 +1,6 @@
 //! What stays of a task that is out, and what its hub may note of it. The function does nothing: what it ensures is proved.
 
-ghost use Rattle.vx_tasks.specs.Laws.{LeftKept, DoneKept, StarvedBeyond, ClosedStays};
-ghost use Rattle.vx_tasks.specs.Laws.{JudgeIs, EachJudged, HeldDistinct, AnswersNow, AnswerKept, AnswerDivides, AnswerKnown};
+ghost use Rattle.vx_tasks.specs.Laws.{TaskLaws};
 
 use vx_ends::Port;
 
@@ -10,15 +9,5 @@ use vx_ends::Port;
 /// transform judged may be answered: each parcel that it holds is put out on its ports, or stays and is discarded, and what it keeps
 /// stands for that too.
 pub fn task_laws<P: Port>()
-    ensures left { LeftKept P.observed }
-    ensures done { DoneKept P.observed }
-    ensures starved { StarvedBeyond P.observed }
-    ensures closed { ClosedStays }
-    ensures judge { JudgeIs P.observed }
-    ensures judged { EachJudged P.observed }
-    ensures distinct { HeldDistinct P.observed }
-    ensures answers { AnswersNow P.observed }
-    ensures kept { AnswerKept P.observed }
-    ensures divides { AnswerDivides }
-    ensures known { AnswerKnown }
+    ensures { TaskLaws P.observed }
 {}

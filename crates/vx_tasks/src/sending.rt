@@ -1,6 +1,6 @@
 ghost use Rattle.std.specs.Prelude.{◌≡◌, ◌≤◌, length, take, IfOk, IfErr, OnErr, OnOk, IsNone, IsErrOf, IsTrue, Some, false};
 ghost use Rattle.vx_ends.specs.Observation.{Grows, Rose, CountsBy, nothing};
-ghost use Rattle.vx_tasks.specs.Attempts.{OnlyGives, IsCaused, IsWhole, CountsReply, sent_counts, trouble_counts};
+ghost use Rattle.vx_tasks.specs.Attempts.{OnlyGives, IsCaused, IsWhole, CountsReply, CountsSent, sent_counts, trouble_counts};
 ghost use Rattle.vx_sourcecore.specs.Turns.{StartsAtMost};
 
 use vx_ends::{Port, Reply, Trouble};
@@ -35,10 +35,7 @@ pub(crate) fn attempt<P: Port>(port: &mut P, bytes: &[u8]) -> Result<Attempted, 
     ensures part { IfErr result (λ short. short.sent ≤ length bytes.now) }
     ensures closed { OnErr result ((P.observed port.new).started ≡ false) }
 {
-    let (sent, answer) = match port.start() {
-        Ok(()) => give_and_finish(port, bytes),
-        Err(trouble) => (0, Err(trouble)),
-    };
+    let (sent, answer) = start_and_give(port, bytes);
     let trouble = match answer {
         Ok(()) => {
             return Ok(Attempted {
@@ -64,6 +61,21 @@ pub(crate) fn attempt<P: Port>(port: &mut P, bytes: &[u8]) -> Result<Attempted, 
             port.close();
             Err(CutShort { sent })
         }
+    }
+}
+
+/// Starts the port if it isn't started, gives it the bytes, and finishes where all were given.
+fn start_and_give<P: Port>(port: &mut P, bytes: &[u8]) -> (u64, Result<(), Trouble>)
+    ensures counts { CountsSent result.1 (P.observed port.old) (P.observed port.new) }
+    ensures within { result.0 ≤ length bytes.now }
+    ensures given { Grows (P.observed port.old).given (P.observed port.new).given
+        (take result.0 bytes.now) }
+    ensures others { OnlyGives (P.observed port.old) (P.observed port.new) }
+    ensures whole { OnOk result.1 (result.0 ≡ length bytes.now) }
+{
+    match port.start() {
+        Ok(()) => give_and_finish(port, bytes),
+        Err(trouble) => (0, Err(trouble)),
     }
 }
 

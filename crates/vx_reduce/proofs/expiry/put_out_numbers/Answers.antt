@@ -3,7 +3,7 @@ use Rattle.std.specs.Prelude.{filter}
 use Rattle.std.specs.Map.{keys_of, values_of}
 use Rattle.vx_reduce.specs.declared.group.Group.{Group}
 use Rattle.vx_reduce.specs.Indexes.{IsIndexed}
-use Rattle.vx_reduce.proofs.Expiring.{out_at_first, out_same, one_more, no_more, OneMore, drop_at, drop_end}
+use Rattle.vx_reduce.proofs.Expiring.{out_at_first, out_same, one_more, no_more, drop_at, drop_end}
 use Rattle.vx_reduce.proofs.expiry.put_out_numbers.Goals as goal
 
 pub loop-number-init : goal.loop-number-init

@@ -1,9 +1,8 @@
-use Rattle.std.proofs.Common.{◌≡◌, ◌∷◌, ◌<◌, List, length, drop, sym, ◌∙◌, ap, subst}
+use Rattle.std.proofs.Common.{◌∷◌, List, drop, ◌∙◌, ap, subst}
 use Rattle.std.specs.List.Sorted.{IsPermutation}
 use Rattle.std.specs.Map.{values_of}
 use Rattle.vx_ledger.specs.Copies.{Copy}
 use Rattle.vx_reduce.specs.Groups.{copies_held}
-use Rattle.vx_reduce.specs.Indexes.{IsIndexed, BeginsBare}
 use Rattle.vx_reduce.proofs.Surrender.{took, indexed_took, same_without, shorter}
 use Rattle.vx_reduce.proofs.expiry.take_copy_from.Goals as goal
 

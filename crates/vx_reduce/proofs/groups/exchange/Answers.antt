@@ -1,8 +1,8 @@
 use Rattle.std.specs.Prelude.{IsSome, IfSome}
-use Rattle.std.proofs.Common.{◌≡◌, ℕ, Option, Some, None, List, [], ◌∷◌, ◌++◌, refl, sym, ◌∙◌, ap, subst}
+use Rattle.std.proofs.Common.{◌≡◌, Option, Some, refl, sym, ◌∙◌, ap, subst}
 use Rattle.std.specs.Ordering.{nat_cmp}
 use Rattle.std.specs.Map.{lookup, remove_entry}
-use Rattle.std.specs.BTreeMap.{is_at, insert_entry}
+use Rattle.std.specs.BTreeMap.{is_at}
 use Rattle.vx_ledger.specs.declared.parcel.Parcel.{Parcel}
 use Rattle.vx_reduce.specs.declared.group.Group.{Group}
 use Rattle.vx_reduce.specs.Groups.{put_all, output_found}
@@ -38,7 +38,7 @@ pub returns-in-Ok-put_out_at-clause-entries : goal.returns-in-Ok-put_out_at-clau
 returns-in-Ok-put_out_at-clause-entries c =
     let g : Group = record { key = c.args.key; moment = c.args.moment; parcel = Some c.args.parcel } in
     let placed = c.in-Ok.ensures.ok ∙ insert_last c.args.next g c.args.entries.now.entries c.requires.last in
-    c.in-Ok-put_out_at.ensures.entries ∙ ap (λ es. remove_entry (is_at (nat_cmp c.args.number)) es) placed ∙ remove-front (is_at (nat_cmp c.args.number)) c.args.entries.now.entries (c.args.next, g) c.requires.there
+    c.in-Ok-put_out_at.ensures.taken.entries ∙ ap (λ es. remove_entry (is_at (nat_cmp c.args.number)) es) placed ∙ remove-front (is_at (nat_cmp c.args.number)) c.args.entries.now.entries (c.args.next, g) c.requires.there
 
 pub returns-in-Ok-put_out_at-clause-put_out : goal.returns-in-Ok-put_out_at-clause-put_out
 returns-in-Ok-put_out_at-clause-put_out c =
@@ -50,7 +50,7 @@ pub returns-in-Ok-put_out_at-clause-key : goal.returns-in-Ok-put_out_at-clause-k
 returns-in-Ok-put_out_at-clause-key c =
     let g : Group = record { key = c.args.key; moment = c.args.moment; parcel = Some c.args.parcel } in
     let placed = c.in-Ok.ensures.ok ∙ insert_last c.args.next g c.args.entries.now.entries c.requires.last in
-    subst (λ (o : Option Group). IfSome o (λ h. c.in-Ok-put_out_at.key ≡ h.key)) (ap (λ es. lookup (is_at (nat_cmp c.args.number)) es) placed ∙ lookup-front (is_at (nat_cmp c.args.number)) c.args.entries.now.entries (c.args.next, g) c.requires.there) c.in-Ok-put_out_at.ensures.key
+    subst (λ (o : Option Group). IfSome o (λ h. c.in-Ok-put_out_at.key ≡ h.key)) (ap (λ es. lookup (is_at (nat_cmp c.args.number)) es) placed ∙ lookup-front (is_at (nat_cmp c.args.number)) c.args.entries.now.entries (c.args.next, g) c.requires.there) c.in-Ok-put_out_at.ensures.taken.named
 
 pub returns-in-Err-put_out_at-clause-err : goal.returns-in-Err-put_out_at-clause-err
 returns-in-Err-put_out_at-clause-err c =

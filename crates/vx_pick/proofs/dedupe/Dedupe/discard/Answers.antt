@@ -1,4 +1,4 @@
-use Rattle.std.proofs.Common.{◌≡◌, true, length, ◌∙◌, ap, arith}
+use Rattle.std.proofs.Common.{◌≡◌, true, [], length, ◌∙◌, ap, arith}
 use Rattle.std.specs.List.{list_any}
 use Rattle.std.specs.Map.{keys_of}
 use Rattle.lru.specs.LruCache.{LruCache}
@@ -19,10 +19,16 @@ invariant_of-self c =
     ap (λ (s : Keys). length s.entries) c.promote.ensures.entries ∙ promoted_length c.args.key es there in
     (ap (λ (s : Keys). s.cap) c.promote.ensures.entries ∙ c.self.invariant.0, omega (arith, long, c.self.invariant.1))
 
-pub returns-in-Ok-clause-keys : goal.returns-in-Ok-clause-keys
-returns-in-Ok-clause-keys c =
+pub returns-in-Ok-clause-settled : goal.returns-in-Ok-clause-settled
+returns-in-Ok-clause-settled c =
     let es = c.self.inside.seen.entries in
     let there : list_any (same_datum c.args.key) (keys_of es) ≡ true =
     ap (λ (d : Deduper). list_any (same_datum c.args.key) d.keys) c.self.view_is ∙ c.requires in
-    ap (λ (s : Keys). keys_of s.entries) c.promote.ensures.entries ∙ promoted_remembers c.args.key c.self.inside.most es there
-    ∙ ap (λ (d : Deduper). remembering d.most c.args.key d.keys) c.self.view_is
+    record {
+      answered = c.in-Ok.ensures.answered [] c.bits_for.ensures;
+      keys =
+          ap (λ (s : Keys). keys_of s.entries) c.promote.ensures.entries ∙ promoted_remembers c.args.key c.self.inside.most es there
+          ∙ ap (λ (d : Deduper). remembering d.most c.args.key d.keys) c.self.view_is;
+      by = ap (λ (d : Deduper). d.by) c.self.view_is;
+      most = ap (λ (d : Deduper). d.most) c.self.view_is;
+    }

@@ -1,23 +1,19 @@
-use Rattle.std.proofs.Common.{◌≡◌, [], ◌∷◌, subst}
-use Rattle.std.specs.Prelude.{if◌then◌else◌}
+use Rattle.std.proofs.Common.{[], ◌∷◌, subst}
 use Rattle.vx_value.specs.Texts.{ByteString}
 use Rattle.vx_condition.specs.Conditions.{Says}
 use Rattle.vx_pick.proofs.Saying.{meant_by, passing_bits}
 use Rattle.vx_pick.proofs.filter.Filter.ports_for.Goals as goal
-use Rattle.vx_pick.proofs.filter.Filter.ports_for.Goals.{then-branch, else-branch}
 
 pub returns-clause-ports : goal.returns-clause-ports
 returns-clause-ports c = λ test earlier mean.
-    let holds = c.in_ok-holds.field-0 in
+    let holds = c.in_ok-holds.holds in
     let says : Says c.args.self.now c.args.event.now.fields holds =
     subst (λ (text : ByteString). Says text c.args.event.now.fields holds) c.self.view_is c.in_ok-holds.ensures.meaning in
-    let bits : c.if-branch.result ≡ (if holds then 1 else 0) =
-    elim c.if-branch.branch [ then-branch w ↦ rw w.if-branch.true w.result-is | else-branch w ↦ rw w.if-branch.false w.result-is ] in
-    passing_bits c.args.self.now c.args.event.now test earlier holds c.if-branch.result mean says bits
+    passing_bits c.args.self.now c.args.event.now test earlier holds c.bits_for.result mean says c.bits_for.ensures
 
 pub returns-clause-meant : goal.returns-clause-meant
 returns-clause-meant c =
-    let holds = c.in_ok-holds.field-0 in
+    let holds = c.in_ok-holds.holds in
     let says : Says c.args.self.now c.args.event.now.fields holds =
     subst (λ (text : ByteString). Says text c.args.event.now.fields holds) c.self.view_is c.in_ok-holds.ensures.meaning in
     let here = meant_by c.args.self.now c.args.event.now.fields holds says in
