@@ -6,8 +6,8 @@ use Rattle.vx_condition.specs.Picking.{filter_passes}
 use Rattle.vx_codec.specs.declared.codec.Codec.TheVariants as codec
 use Rattle.vx_record.specs.Copies.{count}
 use Rattle.vx_record.specs.Reads.{taken}
-use Rattle.vx_plain.specs.Plain.{Feeds, Chain, readers_of}
-use Rattle.vx_plain.proofs.Streams.{endless_unbroken}
+use Rattle.vx_plain_case.specs.Plain.{Feeds, Chain, readers_of}
+use Rattle.vx_plain_case.proofs.Streams.{endless_unbroken}
 use Rattle.vx_examples.proofs.Conditions.{is_k, means_k}
 use Rattle.vx_examples.proofs.FilteredLegal as filtered
 use Rattle.vx_examples.specs.Parts.{block}

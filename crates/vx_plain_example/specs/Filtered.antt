@@ -1,7 +1,7 @@
 -- The run in which a filter discards one line of two, as a plain run.
 use Rattle.std.specs.Prelude.{◌≡◌, [], ◌∷◌, map}
 use Rattle.vx_record.specs.Encoding.{given}
-use Rattle.vx_plain.specs.Plain.{Picker, Chain, IsPlainRun}
+use Rattle.vx_plain_case.specs.Plain.{Picker, Chain, IsPlainRun}
 use Rattle.vx_examples.specs.Filtered.{plan, run}
 
 -- the plan has a chain from its source, the first component, through the second to the third, and the run is a plain run of it

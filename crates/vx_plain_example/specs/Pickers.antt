@@ -2,7 +2,7 @@
 use Rattle.std.specs.Prelude.{false, [], ◌∷◌, codes}
 use Rattle.vx_condition.specs.declared.dedupe_fields.DedupeFields.TheVariants.{Match}
 use Rattle.vx_condition.specs.Picking.{sample_passes, dedupe_passes}
-use Rattle.vx_plain.specs.Plain.{IsPicker}
+use Rattle.vx_plain_case.specs.Plain.{IsPicker}
 use Rattle.vx_examples.specs.Chained.{plan}
 
 -- the second component passes each second event, from the first on

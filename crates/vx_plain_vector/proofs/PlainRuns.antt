@@ -27,9 +27,9 @@ use Rattle.vx_record.proofs.Wired.{component_there}
 use Rattle.vx_tasks.specs.Observing.{IsObserved}
 use Rattle.vx_hub.specs.Remains.{AreNumbered, AreObserved}
 use Rattle.vx_hub.specs.declared.parts.Numbered.{Numbered}
-use Rattle.vx_plain.specs.Plain.{IsPlainRun, picked, events_in}
-use Rattle.vx_plain.proofs.Streams.{endless_unbroken}
-use Rattle.vx_plain.proofs.Composing.{plain_case}
+use Rattle.vx_plain_case.specs.Plain.{IsPlainRun, picked, events_in}
+use Rattle.vx_plain_case.proofs.Streams.{endless_unbroken}
+use Rattle.vx_plain_case.proofs.Composing.{plain_case}
 use Rattle.vx_run.specs.Answers.{IsReady}
 use Rattle.vx_plain_vector.specs.PlainRuns.{IsSmooth, PlainRecord, PlainBytes}
 

@@ -17,7 +17,7 @@ use Rattle.vx_hub.specs.Remains.{AreNumbered}
 use Rattle.vx_hub.specs.declared.parts.Numbered.{Numbered}
 use Rattle.vx_run.specs.Answers.{IsReady, IsAnswer}
 use Rattle.vx_run.specs.Running.{IsTrueTo, HasInstalled, IsReadOut}
-use Rattle.vx_plain.specs.Plain.{Chain, NoneBehindEnd, picked, events_in, events_read}
+use Rattle.vx_plain_case.specs.Plain.{Chain, NoneBehindEnd, picked, events_in, events_read}
 
 -- what the top call ensures of the record of a run that ended well: it is legal and leaves nothing to do, the input was read out, and
 -- what the answer says

@@ -12,17 +12,17 @@ use Rattle.vx_record.specs.Installs.{is_retired}
 use Rattle.vx_record.specs.Encoding.{encode}
 use Rattle.vx_record.specs.Shifts.{at}
 use Rattle.vx_record.proofs.Senders.{started_component_or}
-use Rattle.vx_plain.specs.Plain.{Picker, picked, Feeds, IsChain, PlainCase}
-use Rattle.vx_plain.proofs.Plans.{Run, Reads, Sends, Buffers, transform_buffers, reads_source}
-use Rattle.vx_plain.proofs.Flows.{put_events, took_events}
-use Rattle.vx_plain.proofs.Links.{carried}
-use Rattle.vx_plain.proofs.Ended.{NoneLive, nothing_at}
-use Rattle.vx_plain.proofs.Meanings.{picks_passed}
-use Rattle.vx_plain.proofs.Sinks.{Writes, Unfailed, given_bytes}
-use Rattle.vx_plain.proofs.Giving.{gave_all}
-use Rattle.vx_plain.proofs.Births.{created_all}
-use Rattle.vx_plain.proofs.Streams.{OneStream}
-use Rattle.vx_plain.proofs.ReadEnds.{read_all}
+use Rattle.vx_plain_case.specs.Plain.{Picker, picked, Feeds, IsChain, PlainCase}
+use Rattle.vx_plain_case.proofs.Plans.{Run, Reads, Sends, Buffers, transform_buffers, reads_source}
+use Rattle.vx_plain_case.proofs.Flows.{put_events, took_events}
+use Rattle.vx_plain_case.proofs.Links.{carried}
+use Rattle.vx_plain_case.proofs.Ended.{NoneLive, nothing_at}
+use Rattle.vx_plain_case.proofs.Meanings.{picks_passed}
+use Rattle.vx_plain_case.proofs.Sinks.{Writes, Unfailed, given_bytes}
+use Rattle.vx_plain_case.proofs.Giving.{gave_all}
+use Rattle.vx_plain_case.proofs.Births.{created_all}
+use Rattle.vx_plain_case.proofs.Streams.{OneStream}
+use Rattle.vx_plain_case.proofs.ReadEnds.{read_all}
 
 -- in the end a reader took all that was put out for it
 took_all : (plan : Plan) (h : Record) (i t : ℕ) → Sends plan i → Feeds plan i t → Buffers plan t → Run plan h → NoneLive h → took_events h t ≡ put_events h i

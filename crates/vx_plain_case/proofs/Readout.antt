@@ -16,10 +16,10 @@ use Rattle.vx_record.specs.Installs.{in_force}
 use Rattle.vx_record.specs.Reads.{taken, all_ended, stream_of, open_bytes, still_open, lines_past, events_of_lines, events_of, ended_by, ended_streams}
 use Rattle.vx_record.specs.Legal.{IsLegal}
 use Rattle.vx_record.proofs.Counts.{count-append}
-use Rattle.vx_plain.proofs.Plans.{Reads}
-use Rattle.vx_plain.proofs.Births.{read_events}
-use Rattle.vx_plain.proofs.Streams.{OneStream, one_before, own_taken, none_new, others_shut}
-use Rattle.vx_plain.proofs.Lines.{lines_of, no_lines, adds, events_by, unended_yet}
+use Rattle.vx_plain_case.proofs.Plans.{Reads}
+use Rattle.vx_plain_case.proofs.Births.{read_events}
+use Rattle.vx_plain_case.proofs.Streams.{OneStream, one_before, own_taken, none_new, others_shut}
+use Rattle.vx_plain_case.proofs.Lines.{lines_of, no_lines, adds, events_by, unended_yet}
 
 -- before an end of the stream: its bytes are open, and their full lines are read
 pub record IsOpen (settings : Settings) (h : Record) (i stream : ℕ) : Type 0 where

@@ -26,10 +26,10 @@ use Rattle.vx_record.proofs.Changes.{NoneEmpty, shrunk-none}
 use Rattle.vx_record.proofs.Promises.{decided_held}
 use Rattle.vx_record.proofs.FirstPort.{open_routes, first_readers}
 use Rattle.vx_record.proofs.Shifting.{stands_at}
-use Rattle.vx_plain.specs.Plain.{Feeds}
-use Rattle.vx_plain.proofs.Plans.{Run, Sends, Buffers, readers_wired, never_drops}
-use Rattle.vx_plain.proofs.Standing.{IsAt, full_at, not_at}
-use Rattle.vx_plain.proofs.FirstPorts.{out_first}
+use Rattle.vx_plain_case.specs.Plain.{Feeds}
+use Rattle.vx_plain_case.proofs.Plans.{Run, Sends, Buffers, readers_wired, never_drops}
+use Rattle.vx_plain_case.proofs.Standing.{IsAt, full_at, not_at}
+use Rattle.vx_plain_case.proofs.FirstPorts.{out_first}
 
 -- where a spent copy stood: it was held, or is the newest that a full target drops, or nobody reads it
 pub data Whence (h : Record) (j c : ℕ) : Type 0 where

@@ -33,13 +33,13 @@ use Rattle.vx_record.proofs.Untried.{spent_on, untried_spent, spent_failed}
 use Rattle.vx_record.proofs.Spenders.{stands_live}
 use Rattle.vx_record.proofs.Shifting.{stands_at}
 use Rattle.vx_record.proofs.Wired.{component_there}
-use Rattle.vx_plain.proofs.Plans.{Run}
-use Rattle.vx_plain.proofs.Standing.{IsAt, events_at, events_stay, full_at, not_at, stands_there}
-use Rattle.vx_plain.proofs.Flows.{took_events}
-use Rattle.vx_plain.proofs.FirstPorts.{count-less}
-use Rattle.vx_plain.proofs.Spends.{spent_stays, newest_at, unread_at}
-use Rattle.vx_plain.proofs.Ended.{NoneLive, nothing_at, no_copies}
-use Rattle.vx_plain.proofs.Sinks.{Writes, Unfailed, unfailed_before, attempted_decided, given_events}
+use Rattle.vx_plain_case.proofs.Plans.{Run}
+use Rattle.vx_plain_case.proofs.Standing.{IsAt, events_at, events_stay, full_at, not_at, stands_there}
+use Rattle.vx_plain_case.proofs.Flows.{took_events}
+use Rattle.vx_plain_case.proofs.FirstPorts.{count-less}
+use Rattle.vx_plain_case.proofs.Spends.{spent_stays, newest_at, unread_at}
+use Rattle.vx_plain_case.proofs.Ended.{NoneLive, nothing_at, no_copies}
+use Rattle.vx_plain_case.proofs.Sinks.{Writes, Unfailed, unfailed_before, attempted_decided, given_events}
 
 -- all that it attempted is spent, and what it took it gave or holds
 pub record Fresh (h : Record) (k : ℕ) : Type 0 where

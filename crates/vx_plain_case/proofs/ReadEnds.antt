@@ -20,11 +20,11 @@ use Rattle.vx_record.specs.LineBytes.{lines_after}
 use Rattle.vx_record.specs.Reads.{bytes_of, is_end, taken, all_ended, last_stream, stream_of, open_bytes, still_open, lines_past, events_of_lines, events_of, ended_by, ended_streams}
 use Rattle.vx_record.specs.Legal.{IsLegal}
 use Rattle.vx_record.proofs.Counts.{count-append}
-use Rattle.vx_plain.proofs.Plans.{Run, Reads}
-use Rattle.vx_plain.proofs.Births.{read_events}
-use Rattle.vx_plain.proofs.Streams.{OneStream, one_before, own_taken, others_shut, none_of_one}
-use Rattle.vx_plain.proofs.Lines.{lines_of, no_lines, adds}
-use Rattle.vx_plain.proofs.Readout.{IsShut, IsReadSo, own_read, own_open, own_events, this_stream, apart_by, quiet_read, ended_on, on_bytes}
+use Rattle.vx_plain_case.proofs.Plans.{Run, Reads}
+use Rattle.vx_plain_case.proofs.Births.{read_events}
+use Rattle.vx_plain_case.proofs.Streams.{OneStream, one_before, own_taken, others_shut, none_of_one}
+use Rattle.vx_plain_case.proofs.Lines.{lines_of, no_lines, adds}
+use Rattle.vx_plain_case.proofs.Readout.{IsShut, IsReadSo, own_read, own_open, own_events, this_stream, apart_by, quiet_read, ended_on, on_bytes}
 
 -- AN END
 -- a Read that tells an end: it has no bytes, leaves nothing open, and completes the open line, if there is one

@@ -16,7 +16,7 @@ use Rattle.vx_record.proofs.Changes.{NoneEmpty}
 use Rattle.vx_record.proofs.Promises.{discarded_held}
 use Rattle.vx_record.proofs.Shifting.{stands_at}
 use Rattle.vx_record.proofs.Spenders.{stands_live}
-use Rattle.vx_plain.proofs.Standing.{full_at, stands_there}
+use Rattle.vx_plain_case.proofs.Standing.{full_at, stands_there}
 
 -- no copy is live
 abbrev pub NoneLive : Record → Type 0

@@ -20,7 +20,7 @@ use Rattle.vx_record.specs.Legal.{IsLegal}
 use Rattle.vx_record.proofs.PastLines.{lines-after}
 use Rattle.vx_record.proofs.Turning.{turn_undry, unended}
 use Rattle.vx_record.proofs.Wired.{component_there}
-use Rattle.vx_plain.proofs.Plans.{Reads, reads_source}
+use Rattle.vx_plain_case.proofs.Plans.{Reads, reads_source}
 
 -- LINES
 decoded-append : (d : Decoding) (settings : Settings) (xs ys : List Frame) → decoded d settings (xs ++ ys) ≡ decoded d settings xs ++ decoded d settings ys

@@ -26,8 +26,8 @@ use Rattle.vx_record.proofs.Promises.{or_left}
 use Rattle.vx_record.proofs.Senders.{retired_unleased}
 use Rattle.vx_record.proofs.SourceEnds.{source_done}
 use Rattle.vx_record.proofs.Rules.{some_is}
-use Rattle.vx_plain.proofs.Plans.{Run, Reads, reads_source}
-use Rattle.vx_plain.proofs.Flows.{put_events, output_events}
+use Rattle.vx_plain_case.proofs.Plans.{Run, Reads, reads_source}
+use Rattle.vx_plain_case.proofs.Flows.{put_events, output_events}
 
 -- the events that an instance's Reads gave
 abbrev pub read_events : Record → ℕ → List Event

@@ -21,7 +21,7 @@ use Rattle.vx_record.specs.Transforms.{RunsBy, judges, passing}
 use Rattle.vx_record.specs.Legal.{IsLegal}
 use Rattle.vx_record.proofs.FirstWiring.{targets_of_first}
 use Rattle.vx_record.proofs.Wired.{in_force_accepted, wired_so, component_there, begun_legal, unwired_past}
-use Rattle.vx_plain.specs.Plain.{Picker, IsPicker, BlocksFull, readers_of}
+use Rattle.vx_plain_case.specs.Plain.{Picker, IsPicker, BlocksFull, readers_of}
 
 -- a legal record of a run of the plan that wasn't given up
 pub record Run (plan : Plan) (h : Record) : Type 0 where

@@ -27,12 +27,12 @@ use Rattle.vx_record.proofs.Answerers.{source_untransforming}
 use Rattle.vx_record.proofs.Judged.{runner_transforms, runs_judging}
 use Rattle.vx_record.proofs.Judges.{held_is_given}
 use Rattle.vx_record.proofs.Senders.{creator}
-use Rattle.vx_plain.specs.Plain.{IsPicker}
-use Rattle.vx_plain.proofs.Plans.{Run, runs_by}
-use Rattle.vx_plain.proofs.Flows.{put_events, took_events, output_events}
-use Rattle.vx_plain.proofs.FirstPorts.{picked_made}
-use Rattle.vx_plain.proofs.Ended.{NoneLive, nothing_at, nothing_owed}
-use Rattle.vx_plain.proofs.Picking.{IsFull, AllFull, full-reverse, full-flush, passed-append, judged_passed, events_given, given-append, given_in_order, flush_none}
+use Rattle.vx_plain_case.specs.Plain.{IsPicker}
+use Rattle.vx_plain_case.proofs.Plans.{Run, runs_by}
+use Rattle.vx_plain_case.proofs.Flows.{put_events, took_events, output_events}
+use Rattle.vx_plain_case.proofs.FirstPorts.{picked_made}
+use Rattle.vx_plain_case.proofs.Ended.{NoneLive, nothing_at, nothing_owed}
+use Rattle.vx_plain_case.proofs.Picking.{IsFull, AllFull, full-reverse, full-flush, passed-append, judged_passed, events_given, given-append, given_in_order, flush_none}
 
 -- WHAT IT TOOK
 -- what an instance took are the events that it was given

@@ -23,13 +23,13 @@ use Rattle.vx_record.specs.Shifts.{younger, at}
 use Rattle.vx_record.specs.Legal.{IsLegal}
 use Rattle.vx_record.proofs.Changes.{NoneEmpty}
 use Rattle.vx_record.proofs.Shifting.{stands_at}
-use Rattle.vx_plain.specs.Plain.{Feeds}
-use Rattle.vx_plain.proofs.Plans.{Run, Sends, Buffers, enters_first, taken_first}
-use Rattle.vx_plain.proofs.Standing.{events_at, full_at, event_stays, events_stay}
-use Rattle.vx_plain.proofs.Flows.{output_events, put_events, took_events, born_events, answer_events}
-use Rattle.vx_plain.proofs.Rows.{stay, grow, divide, enter, leave}
-use Rattle.vx_plain.proofs.Spends.{first_stands, spent_outputs, spent_waiting, spent_contents}
-use Rattle.vx_plain.proofs.Splits.{split_one, waits_elsewhere}
+use Rattle.vx_plain_case.specs.Plain.{Feeds}
+use Rattle.vx_plain_case.proofs.Plans.{Run, Sends, Buffers, enters_first, taken_first}
+use Rattle.vx_plain_case.proofs.Standing.{events_at, full_at, event_stays, events_stay}
+use Rattle.vx_plain_case.proofs.Flows.{output_events, put_events, took_events, born_events, answer_events}
+use Rattle.vx_plain_case.proofs.Rows.{stay, grow, divide, enter, leave}
+use Rattle.vx_plain_case.proofs.Spends.{first_stands, spent_outputs, spent_waiting, spent_contents}
+use Rattle.vx_plain_case.proofs.Splits.{split_one, waits_elsewhere}
 
 -- what an instance put out: first what its reader took, then what stands in the reader's buffer, what waits for it, and what is put out still
 abbrev pub Carried : Record → ℕ → ℕ → Type 0

@@ -7,7 +7,7 @@ use Rattle.vx_condition.specs.Steps.{Test, Step, comes, ticks, ends, events_of, 
 use Rattle.vx_record.specs.declared.output.Output.{Output}
 use Rattle.vx_record.specs.Inputs.{Input, or_flush, steps_of}
 use Rattle.vx_record.specs.Transforms.{passing, put_on, output_by, judged}
-use Rattle.vx_plain.proofs.Flows.{output_events}
+use Rattle.vx_plain_case.proofs.Flows.{output_events}
 
 -- the parcel of an event that comes has a copy
 abbrev pub IsFull : Step → List ℕ → Type 0

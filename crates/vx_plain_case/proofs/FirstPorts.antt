@@ -28,10 +28,10 @@ use Rattle.vx_record.proofs.Answerers.{answerer, source_untransforming}
 use Rattle.vx_record.proofs.Events.{said_before}
 use Rattle.vx_record.proofs.HeldCopies.{not_there}
 use Rattle.vx_record.proofs.Spenders.{stands_live}
-use Rattle.vx_plain.proofs.Ruled.{one_rule}
-use Rattle.vx_plain.proofs.Plans.{Sends, runs_by, reads_source}
-use Rattle.vx_plain.proofs.Standing.{IsAt, stands_there}
-use Rattle.vx_plain.specs.Plain.{IsPicker}
+use Rattle.vx_plain_case.proofs.Ruled.{one_rule}
+use Rattle.vx_plain_case.proofs.Plans.{Sends, runs_by, reads_source}
+use Rattle.vx_plain_case.proofs.Standing.{IsAt, stands_there}
+use Rattle.vx_plain_case.specs.Plain.{IsPicker}
 
 -- each of some outputs is put out on the first port
 abbrev pub AllFirst : List Output → Type 0

@@ -20,9 +20,9 @@ use Rattle.vx_record.specs.Shifts.{younger, at}
 use Rattle.vx_record.specs.Legal.{IsLegal}
 use Rattle.vx_record.proofs.Counts.{count-append}
 use Rattle.vx_record.proofs.FirstPort.{split_read}
-use Rattle.vx_plain.specs.Plain.{Feeds, readers_of}
-use Rattle.vx_plain.proofs.Plans.{Sends, readers_wired}
-use Rattle.vx_plain.proofs.Spends.{oldest_routes}
+use Rattle.vx_plain_case.specs.Plain.{Feeds, readers_of}
+use Rattle.vx_plain_case.proofs.Plans.{Sends, readers_wired}
+use Rattle.vx_plain_case.proofs.Spends.{oldest_routes}
 
 -- a Split of who sends makes one child, for its reader
 pub split_one : (plan : Plan) (h : Record) (i t ports : ℕ) (copies : List ℕ) (event : Event) (children : List Child) → Sends plan i → Feeds plan i t →

@@ -12,7 +12,7 @@ use Rattle.vx_record.specs.Records.{Record}
 use Rattle.vx_record.specs.Copies.{count}
 use Rattle.vx_record.specs.Reads.{bytes_of, has_bytes, taken, last_stream, ended_by, ended_streams, stream_of, open_bytes}
 use Rattle.vx_record.proofs.Counts.{count-append}
-use Rattle.vx_plain.specs.Plain.{NoneBehindEnd, EndlessLaw}
+use Rattle.vx_plain_case.specs.Plain.{NoneBehindEnd, EndlessLaw}
 
 -- the source took bytes of this stream alone, and none behind an end of it
 pub record OneStream (h : Record) (i stream : ℕ) : Type 0 where

@@ -29,7 +29,7 @@ use Rattle.vx_record.specs.Legal.{IsLegal}
 use Rattle.vx_record.proofs.Counts.{count-append}
 use Rattle.vx_record.proofs.Shifting.{stands_at}
 use Rattle.vx_record.proofs.Wired.{component_there}
-use Rattle.vx_plain.proofs.Standing.{events_at}
+use Rattle.vx_plain_case.proofs.Standing.{events_at}
 
 -- the component in a place is a sink that writes by a codec
 pub record Writes (plan : Plan) (k : ℕ) (codec : Codec) : Type 0 where
